@@ -1,0 +1,4 @@
+pub mod Congruence
+pub mod Moduli
+pub mod Bounds
+pub mod Refusals

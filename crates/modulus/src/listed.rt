@@ -1,0 +1,113 @@
+// A listed modulus, as a type that can hold no other one.
+ghost use mathlib.Core.Path.{_≡_};
+ghost use Prim.Native.Nat.{ℕ, _^_, _<_, _≤_};
+ghost use Rattle.std.specs.Results.{Cases};
+ghost use Rattle.modulus.specs.Bounds.{Mu, v};
+ghost use Rattle.modulus.specs.Moduli.{Listed, greatest};
+use crate::refusal::Refusal;
+use crate::units::split;
+
+// The modulus p ^ e for a listed prime p and exponent e, with its number of open places μ.
+#[derive(Clone, Copy)]
+pub struct Modulus {
+    prime: u32,
+    exponent: u32,
+    value: u32,
+    mu: u32,
+    ghost listed: { Listed prime exponent },
+    ghost power: { value ≡ prime ^ exponent },
+    ghost least: { Mu prime exponent mu },
+}
+
+// The greatest exponent that is listed with p, or 0.
+fn greatest_exponent(p: u32) -> u32
+    ensures { λ r. ⌜ r ≡ greatest p ⌝ }
+{
+    match p {
+        2 => 16,
+        3 => 10,
+        5 => 6,
+        7 => 5,
+        11 => 4,
+        13 => 4,
+        17 => 3,
+        _ => 0,
+    }
+}
+
+// p ^ k, for a listed exponent k or 0.
+pub(crate) fn power(p: u32, k: u32) -> u32
+    requires { ⌜ k ≤ greatest p ⌝ }
+    ensures { λ r. ⌜ r ≡ p ^ k ⌝ }
+{
+    let mut value = 1;
+    for _ in 0..k {
+        value *= p;
+    }
+    value
+}
+
+// μ, the least i whose factorial p ^ e divides.
+fn open_places(p: u32, e: u32) -> u32
+    requires { ⌜ Listed p e ⌝ }
+    ensures { λ r. ⌜ Mu p e r ⌝ }
+{
+    let mut i = 0;
+    let mut reached = 0;
+    while reached < e {
+        i += 1;
+        reached += split(p, i).exponent;
+    }
+    i
+}
+
+impl Modulus {
+    // The modulus p ^ e; refuses where it is off the list.
+    pub fn new(p: u32, e: u32) -> Result<Modulus, Refusal>
+        ensures { λ r. ⌜ Cases r (λ m. (m .prime ≡ p) × (m .exponent ≡ e)) (λ f. (Listed p e → ⊥) × (f ≡ Refusal.Unlisted)) ⌝ }
+    {
+        if e == 0 || e > greatest_exponent(p) {
+            return Err(Refusal::Unlisted);
+        }
+        let value = power(p, e);
+        let mu = open_places(p, e);
+        Ok(Modulus {
+            prime: p,
+            exponent: e,
+            value,
+            mu,
+        })
+    }
+
+    pub fn prime(&self) -> u32
+        ensures is { λ r. ⌜ r ≡ now (self .entry) .prime ⌝ }
+        ensures above { λ r. ⌜ 1 < r ⌝ }
+    {
+        self.prime
+    }
+
+    pub fn exponent(&self) -> u32
+        ensures { λ r. ⌜ r ≡ now (self .entry) .exponent ⌝ }
+    {
+        self.exponent
+    }
+
+    // p ^ e, at most 65,536.
+    pub fn value(&self) -> u32
+        ensures is { λ r. ⌜ r ≡ now (self .entry) .value ⌝ }
+        ensures power { λ r. ⌜ r ≡ now (self .entry) .prime ^ now (self .entry) .exponent ⌝ }
+        ensures above { λ r. ⌜ 1 < r ⌝ }
+        ensures small { λ r. ⌜ r ≤ 65536 ⌝ }
+    {
+        self.value
+    }
+
+    // μ, at most 52: from this place on every bound is 1.
+    pub fn mu(&self) -> u32
+        ensures is { λ r. ⌜ r ≡ now (self .entry) .mu ⌝ }
+        ensures least { λ r. ⌜ Mu (now (self .entry) .prime) (now (self .entry) .exponent) r ⌝ }
+        ensures small { λ r. ⌜ r ≤ 52 ⌝ }
+    {
+        self.mu
+    }
+}

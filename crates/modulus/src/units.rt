@@ -1,0 +1,102 @@
+// Numbers as powers of p times units, and division by a factorial modulo p ^ e.
+ghost use mathlib.Core.Path.{_≡_};
+ghost use Prim.Native.Nat.{ℕ, _*_, _/_, _%_, _^_, _<_, _≤_};
+ghost use Rattle.std.specs.Options.{Cases as BySome};
+ghost use Rattle.modulus.specs.Bounds.{exponent, factorial as factorial-of, v, w};
+ghost use Rattle.modulus.specs.Moduli.{greatest};
+use crate::listed::Modulus;
+use crate::listed::power;
+
+// A number as a power of p times what is left of it.
+#[derive(Clone, Copy)]
+pub(crate) struct PrimePart {
+    pub exponent: u32,
+    pub rest: u32,
+}
+
+// Takes p out of n.
+pub(crate) fn split(p: u32, n: u32) -> PrimePart
+    requires above { ⌜ 1 < p ⌝ }
+    requires some { ⌜ 0 < n ⌝ }
+    ensures exponent { λ r. ⌜ r .exponent ≡ exponent p n ⌝ }
+    ensures whole { λ r. ⌜ n ≡ p ^ r .exponent * r .rest ⌝ }
+    ensures unit { λ r. ⌜ 0 < r .rest % p ⌝ }
+    ensures small { λ r. ⌜ r .exponent < n ⌝ }
+{
+    let mut exponent = 0;
+    let mut rest = n;
+    while rest % p == 0 {
+        rest /= p;
+        exponent += 1;
+    }
+    PrimePart { exponent, rest }
+}
+
+// Takes p out of i!, for a place below μ; what is left of i! is given modulo p ^ e.
+pub(crate) fn factorial(modulus: &Modulus, i: u32) -> PrimePart
+    requires { ⌜ i < now modulus .mu ⌝ }
+    ensures exponent { λ r. ⌜ r .exponent ≡ v (now (modulus .entry) .prime) i ⌝ }
+    ensures open { λ r. ⌜ r .exponent < now (modulus .entry) .exponent ⌝ }
+    ensures rest { λ r. ⌜ r .rest ≡ (factorial-of i / now (modulus .entry) .prime ^ v (now (modulus .entry) .prime) i) % now (modulus .entry) .value ⌝ }
+{
+    let m = modulus.value();
+    let mut exponent = 0;
+    let mut rest = 1;
+    for j in 0..i {
+        let part = split(modulus.prime(), j + 1);
+        exponent += part.exponent;
+        rest = rest * (part.rest % m) % m;
+    }
+    PrimePart { exponent, rest }
+}
+
+// The inverse modulo p of what p does not divide: u ^ (p − 2).
+fn inverse_modulo_prime(p: u32, u: u32) -> u32
+    requires listed { ⌜ 1 ≤ greatest p ⌝ }
+    requires unit { ⌜ 0 < u % p ⌝ }
+    ensures one { λ r. ⌜ (u * r) % p ≡ 1 ⌝ }
+    ensures small { λ r. ⌜ r < p ⌝ }
+{
+    let base = u % p;
+    let mut r = 1;
+    for _ in 2..p {
+        r = r * base % p;
+    }
+    r
+}
+
+// The inverse modulo p ^ e of what p does not divide: each round doubles the number of digits that are right.
+fn inverse(modulus: &Modulus, u: u32) -> u32
+    requires unit { ⌜ 0 < u % now modulus .prime ⌝ }
+    requires small { ⌜ u < now modulus .value ⌝ }
+    ensures one { λ r. ⌜ (u * r) % now (modulus .entry) .value ≡ 1 ⌝ }
+    ensures small { λ r. ⌜ r < now (modulus .entry) .value ⌝ }
+{
+    let m = modulus.value();
+    let mut r = inverse_modulo_prime(modulus.prime(), u);
+    let mut right = 1;
+    while right < modulus.exponent() {
+        r = r * ((2 + (m - u * r % m)) % m) % m;
+        right *= 2;
+    }
+    r
+}
+
+impl Modulus {
+    // The one number c below w(i) with c·i! = rest modulo p ^ e; none where no number has that.
+    pub fn divide_by_factorial(&self, i: u32, rest: u32) -> Option<u32>
+        ensures { λ r. ⌜ BySome r ((c : ℕ) → (c * factorial-of i) % now (self .entry) .value ≡ rest % now (self .entry) .value → ⊥) (λ c. (c < w (now (self .entry) .prime) (now (self .entry) .exponent) i) × ((c * factorial-of i) % now (self .entry) .value ≡ rest % now (self .entry) .value)) ⌝ }
+    {
+        let m = self.value();
+        let rest = rest % m;
+        if i >= self.mu() {
+            return if rest == 0 { Some(0) } else { None };
+        }
+        let part = factorial(self, i);
+        let shared = power(self.prime(), part.exponent);
+        if rest % shared != 0 {
+            return None;
+        }
+        Some(rest / shared * inverse(self, part.rest) % (m / shared))
+    }
+}
