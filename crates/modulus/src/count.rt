@@ -2,7 +2,7 @@
 ghost use mathlib.Core.Path.{_≡_};
 ghost use Prim.Native.Nat.{ℕ, _≤_};
 ghost use Rattle.std.specs.Results.{Cases};
-ghost use Rattle.modulus.specs.Bounds.{Mu, open-digits, w};
+ghost use Rattle.modulus.specs.Bounds.{Exponent, Mu, factorial as factorial-of, open-digits, v, w};
 ghost use Rattle.modulus.specs.Moduli.{Listed};
 use crate::listed::Modulus;
 use crate::listed::power;
@@ -19,9 +19,10 @@ pub struct Counts {
 }
 
 impl Modulus {
-    // w(i), the bound of place i.
+    // w(i), the bound of place i. The contract also says that v(i), by which it is defined, is the exponent of p in i!.
     pub fn bound(&self, i: u32) -> u32
-        ensures { λ r. ⌜ r ≡ w (now (self .entry) .prime) (now (self .entry) .exponent) i ⌝ }
+        ensures is { λ r. ⌜ r ≡ w (now (self .entry) .prime) (now (self .entry) .exponent) i ⌝ }
+        ensures exponent { λ _. ⌜ Exponent (now (self .entry) .prime) (factorial-of i) (v (now (self .entry) .prime) i) ⌝ }
     {
         if i >= self.mu() {
             return 1;

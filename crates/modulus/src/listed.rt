@@ -79,6 +79,18 @@ impl Modulus {
         })
     }
 
+    // The modulus 2.
+    pub fn two() -> Modulus
+        ensures { λ r. ⌜ (r .prime ≡ 2) × (r .exponent ≡ 1) ⌝ }
+    {
+        Modulus {
+            prime: 2,
+            exponent: 1,
+            value: 2,
+            mu: 2,
+        }
+    }
+
     pub fn prime(&self) -> u32
         ensures is { λ r. ⌜ r ≡ now (self .entry) .prime ⌝ }
         ensures above { λ r. ⌜ 1 < r ⌝ }

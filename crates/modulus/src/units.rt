@@ -36,7 +36,7 @@ pub(crate) fn split(p: u32, n: u32) -> PrimePart
 pub(crate) fn factorial(modulus: &Modulus, i: u32) -> PrimePart
     requires { ⌜ i < now modulus .mu ⌝ }
     ensures exponent { λ r. ⌜ r .exponent ≡ v (now (modulus .entry) .prime) i ⌝ }
-    ensures open { λ r. ⌜ r .exponent < now (modulus .entry) .exponent ⌝ }
+    ensures below { λ r. ⌜ r .exponent < now (modulus .entry) .exponent ⌝ }
     ensures rest { λ r. ⌜ r .rest ≡ (factorial-of i / now (modulus .entry) .prime ^ v (now (modulus .entry) .prime) i) % now (modulus .entry) .value ⌝ }
 {
     let m = modulus.value();

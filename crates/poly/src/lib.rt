@@ -1,4 +1,2 @@
-// Polynomials modulo a prime power.
-pub fn probe() -> u8 {
-    0
-}
+// Polynomials modulo a listed modulus.
+pub mod newton;

@@ -45,7 +45,7 @@ returns-then-rest-shared-ne0 c =
     let k = c .factorial-part .ensures .exponent in
     let g = shared (c .prime .result) (m .prime) (c .factorial-part .result .exponent) (c .args .i) (c .power-shared .result) (c .prime .ensures .is) k (c .power-shared .ensures) in
     never (m .prime) (m .exponent) (m .value) (c .args .i) (v (m .prime) (c .args .i)) (c .args .rest) (listed-prime (m .prime) (m .exponent) (m .listed)) (m .power)
-    (omega (arith, c .factorial-part .ensures .open, k)) (omega arith)
+    (omega (arith, c .factorial-part .ensures .below, k)) (omega arith)
     (λ h. c .if-rest-shared-ne0 .taken (ap (λ (n : ℕ). (c .args .rest % n) % c .power-shared .result) (c .value-m .ensures .is) ∙ ap (λ (n : ℕ). (c .args .rest % m .value) % n) g ∙ h))
 
 pub inverse-requires : need.inverse-requires
@@ -66,7 +66,7 @@ bound c =
     let k = c .factorial-part .ensures .exponent in
     let g = shared (c .prime .result) (m .prime) (c .factorial-part .result .exponent) (c .args .i) (c .power-shared .result) (c .prime .ensures .is) k (c .power-shared .ensures) in
     ap (λ (n : ℕ). c .value-m .result / n) g
-    ∙ bound-is (m .prime) (m .exponent) (v (m .prime) (c .args .i)) (c .value-m .result) (listed-prime (m .prime) (m .exponent) (m .listed) .above) (c .value-m .ensures .power) (omega (arith, c .factorial-part .ensures .open, k))
+    ∙ bound-is (m .prime) (m .exponent) (v (m .prime) (c .args .i)) (c .value-m .result) (listed-prime (m .prime) (m .exponent) (m .listed) .above) (c .value-m .ensures .power) (omega (arith, c .factorial-part .ensures .below, k))
 
 pub rem-result : need.rem-result
 rem-result c = rw (bound c) (w-positive (c .args .self .now .prime) (c .args .self .now .exponent) (c .args .i) (c .args .self .now .listed))
@@ -89,4 +89,4 @@ returns c =
     ap (λ (b : ℕ). (c .args .rest % n) % b) (sym g) ∙ ap (λ (b : ℕ). (c .args .rest % b) % c .power-shared .result) (sym (c .value-m .ensures .is)) ∙ c .if-rest-shared-ne0 .left in
     let one : Cong n (pos (unit p i * s)) (pos 1) =
     cong-from-mod n (unit p i * s) 1 (sym (mul-mod-left n (unit p i) s) ∙ ap (λ (b : ℕ). (b * s) % n) (sym (c .factorial-part .ensures .rest)) ∙ c .inverse .ensures .one ∙ sym (mod-eq-of-lt (omega (arith, c .value-m .ensures .is, c .value-m .ensures .above)))) in
-    (rw same (mod-lt ((c .args .rest % n) / p ^ v p i * s) (w-positive p e i (m .listed))), ap (λ (b : ℕ). (b * factorial i) % n) same ∙ divides p e n i (c .args .rest) s (listed-prime p e (m .listed)) (m .power) (omega (arith, c .factorial-part .ensures .open, k)) even one)
+    (rw same (mod-lt ((c .args .rest % n) / p ^ v p i * s) (w-positive p e i (m .listed))), ap (λ (b : ℕ). (b * factorial i) % n) same ∙ divides p e n i (c .args .rest) s (listed-prime p e (m .listed)) (m .power) (omega (arith, c .factorial-part .ensures .below, k)) even one)

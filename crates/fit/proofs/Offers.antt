@@ -1,0 +1,49 @@
+-- What one coefficient more makes of a fit. Assumes nothing.
+use mathlib.Core.Path.{_≡_, refl, sym, ap, subst, _∙_}
+use mathlib.Core.List.{List, [], _∷_, _++_}
+use Prim.Native.Nat.{ℕ, suc, _+_, _*_, _^_, _≤_, _<_}
+use native.Mathlib.Numerals.{add-one}
+use native.Mathlib.Omega.{arith}
+use lib.IntN.{pos}
+use lib.ListN.{length, getD}
+use Rattle.modulus.specs.Bounds.{factorial}
+use Rattle.modulus.specs.Congruence.{Cong}
+use Rattle.modulus.specs.declared.listed.Modulus.{Modulus}
+use Rattle.poly.specs.Polynomial.{Fits}
+use Rattle.poly.specs.Reduced.{Reported, standing, value-at}
+use Rattle.poly.proofs.Reports.{extended, fits-standing, reported}
+use Rattle.poly.proofs.Standing.{length-standing}
+use Rattle.fit.specs.Rules.{Offered}
+use Rattle.fit.specs.Standing.{power-of, stands}
+use Rattle.fit.specs.declared.table.Fit.{Fit}
+
+-- g is f with the coefficient d behind the others
+pub record Grown (f g : Fit) (d : ℕ) : Type 0 where
+  pub modulus : g .modulus ≡ f .modulus
+  pub count : g .count ≡ f .count + 1
+  pub same : (i : ℕ) → i < f .count → getD (g .coefficients) i 0 ≡ getD (f .coefficients) i 0
+  pub last : getD (g .coefficients) (f .count) 0 ≡ d
+
+pub grown : (f g : Fit) (y d : ℕ) → Grown f g d → y < power-of (f .modulus)
+    → Cong (power-of (f .modulus)) (pos (value-at (f .coefficients) (f .count) + d * factorial (f .count))) (pos y) → stands g ≡ stands f ++ y ∷ []
+grown f g y d h small solves =
+    let m = f .modulus in
+    ap (λ (n : Modulus). standing (power-of n) (g .coefficients) (g .count)) (h .modulus)
+    ∙ ap (λ (n : ℕ). standing (power-of m) (g .coefficients) n) (h .count ∙ add-one (f .count))
+    ∙ extended (m .prime) (m .exponent) (m .listed) (f .coefficients) (g .coefficients) (f .count) y d small (f .clear) (h .same) (h .last) solves
+
+pub offered : (f g : Fit) (y d : ℕ) → Grown f g d → y < power-of (f .modulus) → f .count < power-of (f .modulus)
+    → Cong (power-of (f .modulus)) (pos (value-at (f .coefficients) (f .count) + d * factorial (f .count))) (pos y)
+    → Offered (f .modulus .prime) (f .modulus .exponent) (stands f) y (f .count) d
+offered f g y d h small room solves =
+    let m = f .modulus in
+    let is = grown f g y d h small solves in
+    let len = length-standing (power-of m) (f .coefficients) (f .count) in
+    let report : Reported (g .modulus .prime) (g .modulus .exponent) (stands g) (g .coefficients) = reported (g .modulus .prime) (g .modulus .exponent) (g .modulus .listed) (g .coefficients) (g .count) (g .reduced) (g .clear) in
+    record {
+      room = omega arith;
+      small = small;
+      fits = subst (λ (ys : List ℕ). Fits (power-of m) ys) is (subst (λ (n : Modulus). Fits (power-of n) (stands g)) (h .modulus) (fits-standing (power-of (g .modulus)) (g .coefficients) (g .count)));
+      here = sym len;
+      reports = (g .coefficients, subst (λ (ys : List ℕ). Reported (m .prime) (m .exponent) ys (g .coefficients)) is (subst (λ (n : Modulus). Reported (n .prime) (n .exponent) (stands g) (g .coefficients)) (h .modulus) report), sym (h .last));
+    }

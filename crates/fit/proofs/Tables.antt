@@ -1,0 +1,70 @@
+-- Steps of a table: what the coefficients past μ are, one value more, one value less. Assumes nothing.
+use mathlib.Core.Path.{_≡_, refl, sym, ap, subst, _∙_}
+use mathlib.Core.List.{List, [], _∷_, _++_}
+use Prim.Native.Nat.{ℕ, zero, suc, _+_, _*_, _-_, _%_, _^_, _≤_, _<_, min}
+use native.Mathlib.Decide.{decLt, ℕ-discrete}
+use native.Mathlib.Nat.{mod-mod}
+use native.Mathlib.Omega.{arith}
+use lib.IntN.{ℤ, pos, _+ℤ_, _-ℤ_, negℤ}
+use lib.ListN.{length, getD, set, take, replicate}
+use Rattle.std.proofs.shelf.Lists.{getD-take, getD-past, length-take, length-set, getD-set-same, getD-set-other}
+use Rattle.modulus.specs.Bounds.{factorial, w, Mu}
+use Rattle.modulus.specs.Congruence.{Cong}
+use Rattle.modulus.proofs.Bounds.{w-past}
+use Rattle.modulus.proofs.Congruences.{cong-refl, cong-path, cong-sym, cong-trans, cong-add, cong-mod, cong-less, cong-from-mod, mod-from-cong}
+use Rattle.modulus.proofs.Integers.{zlin}
+use Rattle.poly.specs.Reduced.{Reduced, value-at, standing}
+use Rattle.poly.proofs.Standing.{value-same}
+
+-- a list of zeros reads 0 everywhere
+pub zeros : (n k : ℕ) → getD {A = ℕ} (replicate n 0) k 0 ≡ 0
+zeros zero k = refl
+zeros (suc n) zero = refl
+zeros (suc n) (suc k) = zeros n k
+
+-- from place μ on a reduced form has no coefficient
+pub past-mu : (p e k : ℕ) (c : List ℕ) → Mu p e k → Reduced p e c → (i : ℕ) → k ≤ i → getD c i 0 ≡ 0
+past-mu p e k c mu red i le = omega (arith, red i, w-past p e k i mu le)
+
+-- so its first μ coefficients are all of it
+pub front-same : (c : List ℕ) (k : ℕ) → ((i : ℕ) → k ≤ i → getD c i 0 ≡ 0) → (i : ℕ) → getD (take k c) i 0 ≡ getD c i 0
+front-same c k clear i = go (decLt i k)
+  where
+    go : Dec (i < k) → getD (take k c) i 0 ≡ getD c i 0
+    go (yes lt) = getD-take k c i 0 lt
+    go (no ge) = getD-past (take k c) i 0 (omega (arith, length-take k c)) ∙ sym (clear i (omega arith))
+
+pub front-value : (c : List ℕ) (k x : ℕ) → ((i : ℕ) → k ≤ i → getD c i 0 ≡ 0) → value-at (take k c) x ≡ value-at c x
+front-value c k x clear = value-same (take k c) c x (λ i _. front-same c k clear i)
+
+-- d·n! is the rest, y less the value at n, exactly when the two sum to y
+back-ring : (a y : ℤ) → a +ℤ (y -ℤ a) ≡ y
+back-ring a y = omega zlin
+
+less-ring : (a d : ℤ) → d ≡ (a +ℤ d) -ℤ a
+less-ring a d = omega zlin
+
+pub rest-to-sum : (m a y d : ℕ) → 0 < m → d % m ≡ ((y + (m - a % m)) % m) % m → Cong m (pos (a + d)) (pos y)
+rest-to-sum m a y d some h =
+    let rest : Cong m (pos d) (pos y -ℤ pos a) = cong-trans (cong-from-mod m d (y + (m - a % m)) (h ∙ mod-mod (y + (m - a % m)) m)) (cong-less m y a some) in
+    cong-trans (cong-add (cong-refl m (pos a)) rest) (cong-path m (back-ring (pos a) (pos y)))
+
+pub sum-to-rest : (m a y d : ℕ) → 0 < m → Cong m (pos (a + d)) (pos y) → d % m ≡ ((y + (m - a % m)) % m) % m
+sum-to-rest m a y d some h =
+    let rest : Cong m (pos d) (pos y -ℤ pos a) = cong-trans (cong-path m (less-ring (pos a) (pos d))) (cong-add h (cong-refl m (negℤ (pos a)))) in
+    mod-from-cong (cong-trans rest (cong-sym (cong-less m y a some))) ∙ sym (mod-mod (y + (m - a % m)) m)
+
+-- ---- one coefficient written
+pub set-here : (cs : List ℕ) (n c : ℕ) → (length cs ≤ n → c ≡ 0) → getD (set cs n c) n 0 ≡ c
+set-here cs n c past = go (decLt n (length cs))
+  where
+    go : Dec (n < length cs) → getD (set cs n c) n 0 ≡ c
+    go (yes lt) = getD-set-same cs n c 0 lt
+    go (no ge) = getD-past (set cs n c) n 0 (omega (arith, length-set cs n c)) ∙ sym (past (omega arith))
+
+pub set-reduced : (p e : ℕ) (cs : List ℕ) (n c : ℕ) → Reduced p e cs → c < w p e n → (length cs ≤ n → c ≡ 0) → Reduced p e (set cs n c)
+set-reduced p e cs n c red lt past i = go (ℕ-discrete i n)
+  where
+    go : Dec (i ≡ n) → getD (set cs n c) i 0 < w p e i
+    go (yes same) = rw same (rw (set-here cs n c past) lt)
+    go (no other) = rw (getD-set-other cs n i c 0 other) (red i)

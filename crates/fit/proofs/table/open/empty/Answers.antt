@@ -1,0 +1,11 @@
+use mathlib.Core.Path.{sym}
+use Prim.Native.Nat.{ℕ, _<_}
+use native.Mathlib.Omega.{arith}
+use Rattle.modulus.proofs.Bounds.{w-positive}
+use Rattle.fit.proofs.Tables.{zeros}
+use Rattle.fit.proofs.table.open.empty.Needs as need
+
+pub ghost-result : need.ghost-result
+ghost-result c =
+    let m = c .args .modulus in
+    (omega arith, ((λ k. rw (zeros 52 k) (w-positive (m .prime) (m .exponent) k (m .listed))), ((λ k h. zeros 52 k), tt)))

@@ -1,0 +1,2 @@
+// The fit: a table of values, judged value by value, with the reduced polynomial that takes them.
+pub mod table;

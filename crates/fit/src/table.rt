@@ -1,0 +1,27 @@
+// The fit's type.
+ghost use mathlib.Core.Path.{_≡_};
+ghost use Prim.Native.Nat.{ℕ, _≤_};
+ghost use lib.ListN.{getD};
+ghost use Rattle.poly.specs.Reduced.{Reduced};
+use modulus::listed::Modulus;
+
+pub mod offer;
+pub mod open;
+pub mod places;
+pub mod report;
+pub mod withdraw;
+
+// The most places that a bound above 1 can have: μ is at most 52 for every listed modulus.
+pub const PLACES: usize = 52;
+
+// A fit: a modulus and a table of standing values, kept as the coefficients of its reduced Newton form.
+// No value is stored: the one in place i is the form's value at i. From place μ on every coefficient is 0.
+#[derive(Drop)]
+pub struct Fit {
+    modulus: Modulus,
+    count: u32,
+    coefficients: [u16; 52],
+    ghost within: { count ≤ modulus .value },
+    ghost reduced: { Reduced (modulus .prime) (modulus .exponent) coefficients },
+    ghost clear: { (k : ℕ) → count ≤ k → getD coefficients k 0 ≡ 0 },
+}

@@ -1,0 +1,21 @@
+// Values of Newton forms.
+ghost use mathlib.Core.Path.{_≡_};
+ghost use Prim.Native.Nat.{_%_};
+ghost use Rattle.poly.specs.Reduced.{value-at};
+use modulus::listed::Modulus;
+
+// The value at x, modulo p ^ e, of the Newton form with these coefficients: the sum of c_i·(x)_i.
+pub fn evaluate(modulus: &Modulus, coefficients: &[u16], x: u16) -> u32
+    ensures { λ r. ⌜ r ≡ value-at (now (coefficients .entry)) x % now (modulus .entry) .value ⌝ }
+{
+    let m = modulus.value();
+    let mut sum = 0;
+    let mut product = 1;
+    let mut factor = u32::from(x);
+    for c in coefficients {
+        sum = (sum + u32::from(*c) * product) % m;
+        product = product * factor % m;
+        factor = factor.saturating_sub(1);
+    }
+    sum
+}
