@@ -1,7 +1,7 @@
--- What one coefficient more makes of a fit. Assumes nothing.
+-- What one coefficient more, and one less, makes of a fit. Assumes nothing.
 use mathlib.Core.Path.{_≡_, refl, sym, ap, subst, _∙_}
 use mathlib.Core.List.{List, [], _∷_, _++_}
-use Prim.Native.Nat.{ℕ, suc, _+_, _*_, _^_, _≤_, _<_}
+use Prim.Native.Nat.{ℕ, suc, _+_, _*_, _%_, _^_, _≤_, _<_}
 use native.Mathlib.Numerals.{add-one}
 use native.Mathlib.Omega.{arith}
 use lib.IntN.{pos}
@@ -12,7 +12,7 @@ use Rattle.modulus.specs.declared.listed.Modulus.{Modulus}
 use Rattle.poly.specs.Polynomial.{Fits}
 use Rattle.poly.specs.Reduced.{Reported, standing, value-at}
 use Rattle.poly.proofs.Reports.{extended, fits-standing, reported}
-use Rattle.poly.proofs.Standing.{length-standing}
+use Rattle.poly.proofs.Standing.{length-standing, standing-same}
 use Rattle.fit.specs.Rules.{Offered}
 use Rattle.fit.specs.Standing.{power-of, stands}
 use Rattle.fit.specs.declared.table.Fit.{Fit}
@@ -47,3 +47,19 @@ offered f g y d h small room solves =
       here = sym len;
       reports = (g .coefficients, subst (λ (ys : List ℕ). Reported (m .prime) (m .exponent) ys (g .coefficients)) is (subst (λ (n : Modulus). Reported (n .prime) (n .exponent) (stands g) (g .coefficients)) (h .modulus) report), sym (h .last));
     }
+
+-- the last value goes: what stands before it is as it was
+pub shrunk : (f : Fit) (cs : List ℕ) (n y : ℕ) → f .count ≡ suc n → ((i : ℕ) → i < n → getD cs i 0 ≡ getD (f .coefficients) i 0)
+    → y ≡ value-at (f .coefficients) n % power-of (f .modulus) → stands f ≡ standing (power-of (f .modulus)) cs n ++ y ∷ []
+shrunk f cs n y count same value =
+    let m = power-of (f .modulus) in
+    ap (λ (k : ℕ). standing m (f .coefficients) k) count
+    ∙ ap (λ (ys : List ℕ). ys ++ (value-at (f .coefficients) n % m) ∷ []) (sym (standing-same m cs (f .coefficients) n same))
+    ∙ ap (λ (z : ℕ). standing m cs n ++ z ∷ []) (sym value)
+
+-- a front of the coefficients that has all that are not 0 reports what stands
+pub reports : (f : Fit) (cs : List ℕ) → ((i : ℕ) → getD cs i 0 ≡ getD (f .coefficients) i 0) → Reported (f .modulus .prime) (f .modulus .exponent) (stands f) cs
+reports f cs same =
+    let m = f .modulus in
+    subst (λ (ys : List ℕ). Reported (m .prime) (m .exponent) ys cs) (standing-same (power-of m) cs (f .coefficients) (f .count) (λ i _. same i))
+    (reported (m .prime) (m .exponent) (m .listed) cs (f .count) (λ i. rw (same i) (f .reduced i)) (λ i le. same i ∙ f .clear i le))
