@@ -1,0 +1,4 @@
+pub mod Book
+pub mod Desk
+pub mod Law
+pub mod Stops
