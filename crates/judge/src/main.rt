@@ -1,0 +1,189 @@
+// Takes worked tables through fits and prints what was answered.
+use desk::carry::Stopped;
+use desk::carry::carry_out;
+use desk::uses::Answer;
+use desk::uses::Use;
+use fit::table::Fit;
+use fit::table::PLACES;
+use modulus::count::count;
+use modulus::refusal::Refusal;
+use std::alloc::AllocError;
+use std::alloc::Global;
+use std::error::AnyError;
+
+// The greatest exponent that is tried with a prime: one more than any that is listed.
+const EXPONENTS: u32 = 17;
+
+// Prints a list of numbers, with commas between them, and ends the line.
+fn print_list(rt: &LibcRuntime, list: &[u16]) -> Result<(), AnyError> {
+    for (i, c) in list.iter().enumerate() {
+        if i > 0 {
+            print!(rt, ",")?;
+        }
+        print!(rt, "{c}")?;
+    }
+    println!(rt, "")?;
+    Ok(())
+}
+
+// Ends a line with a refusal's number and place.
+fn print_refusal(rt: &LibcRuntime, refusal: Refusal) -> Result<(), AnyError> {
+    let number = refusal.number();
+    let place = refusal.place();
+    println!(rt, "refused {number} at {place}")?;
+    Ok(())
+}
+
+// Ends a line with what was answered.
+fn print_answer(rt: &LibcRuntime, answer: Result<Answer, Refusal>) -> Result<(), AnyError> {
+    match answer {
+        Ok(Answer::Stands { accepted }) => {
+            let place = accepted.place;
+            let coefficient = accepted.coefficient;
+            println!(rt, "place {place}, coefficient {coefficient}")?;
+        }
+        Ok(Answer::Withdrawn { value }) => println!(rt, "{value} goes")?,
+        Err(refusal) => print_refusal(rt, refusal)?,
+    }
+    Ok(())
+}
+
+// A line for each use.
+fn print_uses(rt: &LibcRuntime, uses: &[Use], answers: &[Result<Answer, Refusal>]) -> Result<(), AnyError> {
+    for (asked, answer) in uses.iter().zip(answers.iter()) {
+        match *asked {
+            Use::Offer { value } => print!(rt, "  offer {value}: ")?,
+            Use::Withdraw => print!(rt, "  withdraw: ")?,
+        }
+        print_answer(rt, *answer)?;
+    }
+    Ok(())
+}
+
+// How many values stand, and the report.
+fn print_report(rt: &LibcRuntime, fit: &Fit) -> Result<(), AnyError> {
+    let mut buffer = [0; PLACES];
+    let standing = fit.count();
+    print!(rt, "  standing {standing}, report ")?;
+    match fit.report(&mut buffer) {
+        Ok(length) => print_list(rt, &buffer[0..length]),
+        Err(_) => Err("the report is longer than its buffer".into()),
+    }
+}
+
+// Says why a list of uses was not begun.
+fn print_stop(rt: &LibcRuntime, stop: Stopped) -> Result<(), AnyError> {
+    match stop {
+        Stopped::Refused { refusal } => {
+            print!(rt, "  ")?;
+            print_refusal(rt, refusal)
+        }
+        Stopped::NoMemory => Err("no memory for the answers".into()),
+    }
+}
+
+// Carries out the uses on a freshly opened fit and prints each answer and the report.
+fn judge(rt: &LibcRuntime, p: u32, e: u32, uses: &[Use]) -> Result<(), AnyError> {
+    println!(rt, "modulo {p}^{e}")?;
+    let mut fit = Fit::new();
+    match carry_out(rt.alloc(), &mut fit, p, e, uses) {
+        Ok(answers) => {
+            print_uses(rt, uses, &answers)?;
+            print_report(rt, &fit)
+        }
+        Err(stop) => print_stop(rt, stop),
+    }
+}
+
+// An offer for each value.
+fn offers(heap: Global, values: &[u32]) -> Result<Vec<Use>, AllocError> {
+    let mut uses = Vec::new(heap);
+    for value in values {
+        uses.push(Use::Offer { value: *value })?;
+    }
+    Ok(uses)
+}
+
+// Offers the values of a table.
+fn judge_table(rt: &LibcRuntime, p: u32, e: u32, values: &[u32]) -> Result<(), AnyError> {
+    let uses = offers(rt.alloc(), values)?;
+    judge(rt, p, e, &uses)
+}
+
+// Offers the squares of all numbers below 2^16 modulo 2^16, and one value more than the fit can hold.
+fn judge_full(rt: &LibcRuntime) -> Result<(), AnyError> {
+    let mut uses = Vec::new(rt.alloc());
+    for x in 0..=65536u32 {
+        uses.push(Use::Offer {
+            value: x.wrapping_mul(x) % 65536,
+        })?;
+    }
+    println!(rt, "modulo 2^16, the square of every number")?;
+    let mut fit = Fit::new();
+    match carry_out(rt.alloc(), &mut fit, 2, 16, &uses) {
+        Ok(answers) => {
+            if let Some(last) = answers.last() {
+                print!(rt, "  one value more: ")?;
+                print_answer(rt, *last)?;
+            }
+            print_report(rt, &fit)
+        }
+        Err(stop) => print_stop(rt, stop),
+    }
+}
+
+// The count of each listed exponent of p: open places, then digits.
+fn print_counts(rt: &LibcRuntime, p: u32) -> Result<(), AnyError> {
+    print!(rt, "  {p}:")?;
+    for e in 1..=EXPONENTS {
+        if let Ok(c) = count(p, e) {
+            let mu = c.mu;
+            let digits = c.digits;
+            print!(rt, " {mu}/{digits}")?;
+        }
+    }
+    println!(rt, "")?;
+    Ok(())
+}
+
+fn tables(rt: &LibcRuntime) -> Result<(), AnyError> {
+    judge_table(rt, 2, 3, &[0, 1, 4, 1, 0])?;
+    judge_table(rt, 2, 3, &[0, 1, 4, 1, 1])?;
+    judge_table(rt, 2, 2, &[0, 0, 1])?;
+    judge_table(rt, 2, 2, &[0, 0, 2])?;
+    judge_table(rt, 2, 2, &[0, 1, 0, 1])?;
+    judge_table(rt, 3, 2, &[0, 1, 2, 0, 1, 2])?;
+    judge_table(rt, 7, 1, &[3, 7, 70000, 6])
+}
+
+fn withdrawals(rt: &LibcRuntime) -> Result<(), AnyError> {
+    let uses = [
+        Use::Offer { value: 3 },
+        Use::Offer { value: 5 },
+        Use::Withdraw,
+        Use::Withdraw,
+        Use::Withdraw,
+        Use::Offer { value: 8 },
+    ];
+    judge(rt, 5, 2, &uses)
+}
+
+fn run(rt: &LibcRuntime) -> Result<(), AnyError> {
+    println!(rt, "Tables, offered value by value")?;
+    tables(rt)?;
+    println!(rt, "Withdrawals")?;
+    withdrawals(rt)?;
+    println!(rt, "A modulus that is not listed")?;
+    judge_table(rt, 2, 17, &[0, 1])?;
+    println!(rt, "A full fit")?;
+    judge_full(rt)?;
+    println!(rt, "Counts: open places / digits for each listed exponent, from 1")?;
+    for p in [2, 3, 5, 7, 11, 13, 17] {
+        print_counts(rt, p)?;
+    }
+    Ok(())
+}
+
+fn main(rt: LibcRuntime) -> Result<(), AnyError> {
+    rt.report(run(&rt))
+}

@@ -1,0 +1,11 @@
+// Worked examples: proved of the definitions as one table, and run through the code.
+ghost use mathlib.Core.Path.{_≡_};
+ghost use Rattle.marked.specs.Marked.{Marked, how-many};
+
+// How many marked examples there are; the contract says that each of them holds.
+pub fn marked_tables() -> usize
+    ensures holds { λ _. ⌜ Marked ⌝ }
+    ensures value { λ r. ⌜ r ≡ how-many ⌝ }
+{
+    10
+}
