@@ -44,7 +44,7 @@ impl From<Refusal> for Stopped as StoppedFromRefusal {
 }
 
 // Carries out one use.
-pub fn perform(fit: &mut Fit, asked: Use) -> Result<Answer, Refusal>
+fn perform(fit: &mut Fit, asked: Use) -> Result<Answer, Refusal>
     ensures { λ r. ⌜ Due (sheet-of (now (fit .entry))) asked r (sheet-of (now (fit .exit))) ⌝ }
 {
     match asked {

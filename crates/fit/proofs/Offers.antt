@@ -2,6 +2,7 @@
 use mathlib.Core.Path.{_≡_, refl, sym, ap, subst, _∙_}
 use mathlib.Core.List.{List, [], _∷_, _++_}
 use Prim.Native.Nat.{ℕ, suc, _+_, _*_, _%_, _^_, _≤_, _<_}
+use native.Mathlib.Decide.{ℕ-discrete}
 use native.Mathlib.Numerals.{add-one}
 use native.Mathlib.Omega.{arith}
 use lib.IntN.{pos}
@@ -13,7 +14,9 @@ use Rattle.poly.specs.Polynomial.{Fits}
 use Rattle.poly.specs.Reduced.{Reported, standing, value-at}
 use Rattle.poly.proofs.Reports.{extended, fits-standing, reported}
 use Rattle.poly.proofs.Standing.{length-standing, standing-same}
-use Rattle.fit.specs.Rules.{Offered}
+use Rattle.modulus.specs.declared.refusal.Refusal.{Refusal}
+use Rattle.modulus.specs.declared.refusal.Refusal.the-variants.{TooLarge, Full, NoPolynomial}
+use Rattle.fit.specs.Rules.{No-offer, full, large, unfit, Offered}
 use Rattle.fit.specs.Standing.{power-of, stands}
 use Rattle.fit.specs.declared.table.Fit.{Fit}
 
@@ -63,3 +66,31 @@ reports f cs same =
     let m = f .modulus in
     subst (λ (ys : List ℕ). Reported (m .prime) (m .exponent) ys cs) (standing-same (power-of m) cs (f .coefficients) (f .count) (λ i _. same i))
     (reported (m .prime) (m .exponent) (m .listed) cs (f .count) (λ i. rw (same i) (f .reduced i)) (λ i le. same i ∙ f .clear i le))
+
+-- ---- the refusals of an offer to a fit
+is-full : (m n y : ℕ) (ys : List ℕ) → length ys ≡ n → n ≡ m → No-offer m ys y (Full n)
+is-full m n y ys len h = subst (λ (k : ℕ). No-offer m ys y (Full k)) len (full (len ∙ h))
+
+is-large : (m n y : ℕ) (ys : List ℕ) → length ys ≡ n → n < m → m ≤ y → No-offer m ys y (TooLarge n)
+is-large m n y ys len h k = subst (λ (j : ℕ). No-offer m ys y (TooLarge j)) len (large (omega arith) k)
+
+-- the two that need no polynomial
+pub out-of-range : (f : Fit) (y : ℕ) (r : Refusal) → (f .count ≡ f .modulus .value → r ≡ Full (f .count))
+    → ((f .count ≡ f .modulus .value → ⊥) → (f .modulus .value ≤ y) × (r ≡ TooLarge (f .count))) → No-offer (power-of (f .modulus)) (stands f) y r
+out-of-range f y r at-full past = go (ℕ-discrete (f .count) (f .modulus .value))
+  where
+    len : length (stands f) ≡ f .count
+    len = length-standing (power-of (f .modulus)) (f .coefficients) (f .count)
+    go : Dec (f .count ≡ f .modulus .value) → No-offer (power-of (f .modulus)) (stands f) y r
+    go (yes all) = subst (λ (x : Refusal). No-offer (power-of (f .modulus)) (stands f) y x) (sym (at-full all)) (is-full (power-of (f .modulus)) (f .count) y (stands f) len (all ∙ f .modulus .power))
+    go (no room) =
+        let got = past room in
+        subst (λ (x : Refusal). No-offer (power-of (f .modulus)) (stands f) y x) (sym (got .1))
+        (is-large (power-of (f .modulus)) (f .count) y (stands f) len (omega (arith, f .within, f .modulus .power)) (omega (arith, got .0, f .modulus .power)))
+
+pub is-unfit : (f : Fit) (y : ℕ) → f .count < power-of (f .modulus) → y < power-of (f .modulus) → (Fits (power-of (f .modulus)) (stands f ++ y ∷ []) → ⊥)
+    → No-offer (power-of (f .modulus)) (stands f) y (NoPolynomial (f .count))
+is-unfit f y room small never =
+    let m = power-of (f .modulus) in
+    let len = length-standing m (f .coefficients) (f .count) in
+    subst (λ (j : ℕ). No-offer m (stands f) y (NoPolynomial j)) len (unfit (omega arith) small never)

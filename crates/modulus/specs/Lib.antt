@@ -1,4 +1,5 @@
 pub mod Congruence
 pub mod Moduli
 pub mod Bounds
+pub mod Quotient
 pub mod Refusals

@@ -17,6 +17,10 @@ pub struct Modulus {
     ghost listed: { Listed prime exponent },
     ghost power: { value ≡ prime ^ exponent },
     ghost least: { Mu prime exponent mu },
+    ghost above: { 1 < prime },
+    ghost large: { 1 < value },
+    ghost small: { value ≤ 65536 },
+    ghost few: { mu ≤ 52 },
 }
 
 // The greatest exponent that is listed with p, or 0.
@@ -61,36 +65,38 @@ fn open_places(p: u32, e: u32) -> u32
     i
 }
 
+// The modulus p ^ e, which is listed.
+fn listed(p: u32, e: u32) -> Modulus
+    requires { ⌜ Listed p e ⌝ }
+    ensures { λ r. ⌜ (r .prime ≡ p) × (r .exponent ≡ e) ⌝ }
+{
+    Modulus {
+        prime: p,
+        exponent: e,
+        value: power(p, e),
+        mu: open_places(p, e),
+    }
+}
+
 impl Modulus {
     // The modulus p ^ e; refuses where it is off the list.
     pub fn new(p: u32, e: u32) -> Result<Modulus, Refusal>
-        ensures { λ r. ⌜ Cases r (λ m. (m .prime ≡ p) × (m .exponent ≡ e)) (λ f. (Listed p e → ⊥) × (f ≡ Refusal.Unlisted)) ⌝ }
+        ensures { λ r. ⌜ Cases r (λ m. Listed p e × (m .prime ≡ p) × (m .exponent ≡ e)) (λ f. (Listed p e → ⊥) × (f ≡ Refusal.Unlisted)) ⌝ }
     {
         if e == 0 || e > greatest_exponent(p) {
             return Err(Refusal::Unlisted);
         }
-        let value = power(p, e);
-        let mu = open_places(p, e);
-        Ok(Modulus {
-            prime: p,
-            exponent: e,
-            value,
-            mu,
-        })
+        Ok(listed(p, e))
     }
 
-    // The modulus 2.
+    // The modulus 2, which a new fit has.
     pub fn two() -> Modulus
         ensures { λ r. ⌜ (r .prime ≡ 2) × (r .exponent ≡ 1) ⌝ }
     {
-        Modulus {
-            prime: 2,
-            exponent: 1,
-            value: 2,
-            mu: 2,
-        }
+        listed(2, 1)
     }
 
+    // p
     pub fn prime(&self) -> u32
         ensures is { λ r. ⌜ r ≡ now (self .entry) .prime ⌝ }
         ensures above { λ r. ⌜ 1 < r ⌝ }
@@ -98,6 +104,7 @@ impl Modulus {
         self.prime
     }
 
+    // e
     pub fn exponent(&self) -> u32
         ensures { λ r. ⌜ r ≡ now (self .entry) .exponent ⌝ }
     {

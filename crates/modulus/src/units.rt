@@ -1,9 +1,9 @@
 // Numbers as powers of p times units, and division by a factorial modulo p ^ e.
 ghost use mathlib.Core.Path.{_≡_};
 ghost use Prim.Native.Nat.{ℕ, _*_, _/_, _%_, _^_, _<_, _≤_};
-ghost use Rattle.std.specs.Options.{Cases as BySome};
-ghost use Rattle.modulus.specs.Bounds.{exponent, factorial as factorial-of, v, w};
+ghost use Rattle.modulus.specs.Bounds.{exponent, factorial as factorial-of, v};
 ghost use Rattle.modulus.specs.Moduli.{greatest};
+ghost use Rattle.modulus.specs.Quotient.{Quotient};
 use crate::listed::Modulus;
 use crate::listed::power;
 
@@ -82,21 +82,38 @@ fn inverse(modulus: &Modulus, u: u32) -> u32
     r
 }
 
+// The same from place μ on, where i! is 0 modulo p ^ e.
+fn divide_past(modulus: &Modulus, i: u32, rest: u32) -> Option<u32>
+    requires { ⌜ now modulus .mu ≤ i ⌝ }
+    ensures { λ r. ⌜ Quotient (now (modulus .entry)) i rest r ⌝ }
+{
+    if rest % modulus.value() == 0 { Some(0) } else { None }
+}
+
+// The same before place μ: the power of p in i! has to divide the rest, and what is left of i! has an inverse.
+fn divide_before(modulus: &Modulus, i: u32, rest: u32) -> Option<u32>
+    requires { ⌜ i < now modulus .mu ⌝ }
+    ensures { λ r. ⌜ Quotient (now (modulus .entry)) i rest r ⌝ }
+{
+    let m = modulus.value();
+    let rest = rest % m;
+    let part = factorial(modulus, i);
+    let shared = power(modulus.prime(), part.exponent);
+    if rest % shared != 0 {
+        return None;
+    }
+    Some(rest / shared * inverse(modulus, part.rest) % (m / shared))
+}
+
 impl Modulus {
     // The one number c below w(i) with c·i! = rest modulo p ^ e; none where no number has that.
     pub fn divide_by_factorial(&self, i: u32, rest: u32) -> Option<u32>
-        ensures { λ r. ⌜ BySome r ((c : ℕ) → (c * factorial-of i) % now (self .entry) .value ≡ rest % now (self .entry) .value → ⊥) (λ c. (c < w (now (self .entry) .prime) (now (self .entry) .exponent) i) × ((c * factorial-of i) % now (self .entry) .value ≡ rest % now (self .entry) .value)) ⌝ }
+        ensures { λ r. ⌜ Quotient (now (self .entry)) i rest r ⌝ }
     {
-        let m = self.value();
-        let rest = rest % m;
         if i >= self.mu() {
-            return if rest == 0 { Some(0) } else { None };
+            divide_past(self, i, rest)
+        } else {
+            divide_before(self, i, rest)
         }
-        let part = factorial(self, i);
-        let shared = power(self.prime(), part.exponent);
-        if rest % shared != 0 {
-            return None;
-        }
-        Some(rest / shared * inverse(self, part.rest) % (m / shared))
     }
 }

@@ -1,14 +1,15 @@
 // Values of Newton forms.
 ghost use mathlib.Core.Path.{_≡_};
-ghost use Prim.Native.Nat.{_%_};
+ghost use Prim.Native.Nat.{_%_, _<_, _≤_};
 ghost use Rattle.poly.specs.Reduced.{value-at};
 use modulus::listed::Modulus;
 
-// The value at x, modulo p ^ e, of the Newton form with these coefficients: the sum of c_i·(x)_i.
-pub fn evaluate(modulus: &Modulus, coefficients: &[u16], x: u16) -> u32
-    ensures { λ r. ⌜ r ≡ value-at (now (coefficients .entry)) x % now (modulus .entry) .value ⌝ }
+// The sum of c_i·(x)_i modulo m, by a running product.
+fn sum_of_terms(m: u32, coefficients: &[u16], x: u16) -> u32
+    requires above { ⌜ 1 < m ⌝ }
+    requires small { ⌜ m ≤ 65536 ⌝ }
+    ensures { λ r. ⌜ r ≡ value-at (now (coefficients .entry)) x % m ⌝ }
 {
-    let m = modulus.value();
     let mut sum = 0;
     let mut product = 1;
     let mut factor = u32::from(x);
@@ -18,4 +19,11 @@ pub fn evaluate(modulus: &Modulus, coefficients: &[u16], x: u16) -> u32
         factor = factor.saturating_sub(1);
     }
     sum
+}
+
+// The value at x, modulo p ^ e, of the Newton form with these coefficients.
+pub fn evaluate(modulus: &Modulus, coefficients: &[u16], x: u16) -> u32
+    ensures { λ r. ⌜ r ≡ value-at (now (coefficients .entry)) x % now (modulus .entry) .value ⌝ }
+{
+    sum_of_terms(modulus.value(), coefficients, x)
 }

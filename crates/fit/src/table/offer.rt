@@ -1,7 +1,7 @@
 // Offers.
 ghost use mathlib.Core.List.{[], _++_, _∷_};
 ghost use mathlib.Core.Path.{_≡_};
-ghost use Prim.Native.Nat.{ℕ, _*_, _+_, _<_};
+ghost use Prim.Native.Nat.{ℕ, _*_, _+_, _<_, _≤_};
 ghost use lib.IntN.{pos};
 ghost use lib.ListN.{getD};
 ghost use Rattle.std.specs.Options.{Cases as BySome};
@@ -26,8 +26,8 @@ pub struct Accepted {
 impl Fit {
     // The coefficient by which the reported polynomial takes this value in the next place; none where no integer polynomial does.
     fn next_coefficient(&self, value: u32) -> Option<u16>
-        requires room { ⌜ now self .count < power-of (now self .modulus) ⌝ }
-        requires small { ⌜ value < power-of (now self .modulus) ⌝ }
+        requires room { ⌜ now self .count < now self .modulus .value ⌝ }
+        requires small { ⌜ value < now self .modulus .value ⌝ }
         ensures { λ r. ⌜ BySome r (Fits (power-of (now (self .entry) .modulus)) (stands (now (self .entry)) ++ value ∷ []) → ⊥) (λ c. (c < w (now (self .entry) .modulus .prime) (now (self .entry) .modulus .exponent) (now (self .entry) .count)) × Cong (power-of (now (self .entry) .modulus)) (pos (value-at (now (self .entry) .coefficients) (now (self .entry) .count) + c * factorial (now (self .entry) .count))) (pos value)) ⌝ }
     {
         let m = self.modulus.value();
@@ -41,7 +41,7 @@ impl Fit {
 
     // One coefficient more. Past the last place it is 0, which needs no memory.
     fn append(&mut self, coefficient: u16)
-        requires room { ⌜ now self .count < power-of (now self .modulus) ⌝ }
+        requires room { ⌜ now self .count < now self .modulus .value ⌝ }
         requires small { ⌜ coefficient < w (now self .modulus .prime) (now self .modulus .exponent) (now self .count) ⌝ }
         ensures modulus { λ _. ⌜ now (self .exit) .modulus ≡ now (self .entry) .modulus ⌝ }
         ensures count { λ _. ⌜ now (self .exit) .count ≡ now (self .entry) .count + 1 ⌝ }
@@ -52,11 +52,9 @@ impl Fit {
         self.count += 1;
     }
 
-    // Offers a value for the next place: refused where the fit is full, where the value is not below the modulus,
-    // and where no integer polynomial takes the standing values and this one; a refusal leaves the fit as it is.
-    pub fn offer(&mut self, value: u32) -> Result<Accepted, Refusal>
-        ensures modulus { λ _. ⌜ now (self .exit) .modulus ≡ now (self .entry) .modulus ⌝ }
-        ensures cases { λ r. ⌜ Cases r (λ a. Offered (now (self .entry) .modulus .prime) (now (self .entry) .modulus .exponent) (stands (now (self .entry))) value (a .place) (a .coefficient) × (stands (now (self .exit)) ≡ stands (now (self .entry)) ++ value ∷ [])) (λ f. No-offer (power-of (now (self .entry) .modulus)) (stands (now (self .entry))) value f × (now (self .exit) ≡ now (self .entry))) ⌝ }
+    // The refusals that need no polynomial: the fit is full, or the value is not below the modulus.
+    fn check_range(&self, value: u32) -> Result<(), Refusal>
+        ensures { λ r. ⌜ Cases r (λ _. (now (self .entry) .count < now (self .entry) .modulus .value) × (value < now (self .entry) .modulus .value)) (λ f. (now (self .entry) .count ≡ now (self .entry) .modulus .value → f ≡ Refusal.Full (now (self .entry) .count)) × ((now (self .entry) .count ≡ now (self .entry) .modulus .value → ⊥) → (now (self .entry) .modulus .value ≤ value) × (f ≡ Refusal.TooLarge (now (self .entry) .count)))) ⌝ }
     {
         let m = self.modulus.value();
         let place = self.count as usize;
@@ -66,10 +64,31 @@ impl Fit {
         if value >= m {
             return Err(Refusal::TooLarge { place });
         }
+        Ok(())
+    }
+
+    // The value joins the table if some integer polynomial takes it there.
+    fn fit_in(&mut self, value: u32) -> Result<Accepted, Refusal>
+        requires room { ⌜ now self .count < now self .modulus .value ⌝ }
+        requires small { ⌜ value < now self .modulus .value ⌝ }
+        ensures modulus { λ _. ⌜ now (self .exit) .modulus ≡ now (self .entry) .modulus ⌝ }
+        ensures cases { λ r. ⌜ Cases r (λ a. Offered (now (self .entry) .modulus .prime) (now (self .entry) .modulus .exponent) (stands (now (self .entry))) value (a .place) (a .coefficient) × (stands (now (self .exit)) ≡ stands (now (self .entry)) ++ value ∷ [])) (λ f. No-offer (power-of (now (self .entry) .modulus)) (stands (now (self .entry))) value f × (now (self .exit) ≡ now (self .entry))) ⌝ }
+    {
+        let place = self.count as usize;
         let Some(coefficient) = self.next_coefficient(value) else {
             return Err(Refusal::NoPolynomial { place });
         };
         self.append(coefficient);
         Ok(Accepted { place, coefficient })
+    }
+
+    // Offers a value for the next place: refused where the fit is full, where the value is not below the modulus,
+    // and where no integer polynomial takes the standing values and this one; a refusal leaves the fit as it is.
+    pub fn offer(&mut self, value: u32) -> Result<Accepted, Refusal>
+        ensures modulus { λ _. ⌜ now (self .exit) .modulus ≡ now (self .entry) .modulus ⌝ }
+        ensures cases { λ r. ⌜ Cases r (λ a. Offered (now (self .entry) .modulus .prime) (now (self .entry) .modulus .exponent) (stands (now (self .entry))) value (a .place) (a .coefficient) × (stands (now (self .exit)) ≡ stands (now (self .entry)) ++ value ∷ [])) (λ f. No-offer (power-of (now (self .entry) .modulus)) (stands (now (self .entry))) value f × (now (self .exit) ≡ now (self .entry))) ⌝ }
+    {
+        self.check_range(value)?;
+        self.fit_in(value)
     }
 }

@@ -1,7 +1,6 @@
 // New and freshly opened fits, and what a fit says of itself.
 ghost use mathlib.Core.List.{[]};
 ghost use mathlib.Core.Path.{_≡_};
-ghost use lib.ListN.{length};
 ghost use Rattle.std.specs.Results.{Cases};
 ghost use Rattle.fit.specs.Standing.{stands};
 ghost use Rattle.modulus.specs.Moduli.{Listed};
@@ -45,7 +44,7 @@ impl Fit {
 
     // How many values stand.
     pub fn count(&self) -> u32
-        ensures { λ r. ⌜ r ≡ length (stands (now (self .entry))) ⌝ }
+        ensures { λ r. ⌜ r ≡ now (self .entry) .count ⌝ }
     {
         self.count
     }

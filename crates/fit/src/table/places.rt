@@ -18,7 +18,7 @@ pub(crate) fn put(list: &mut [u16], place: usize, c: u16)
 
 impl Fit {
     // The value at x of the reported polynomial, modulo p ^ e.
-    pub fn value_at(&self, x: u16) -> u32
+    pub(crate) fn value_at(&self, x: u16) -> u32
         ensures { λ r. ⌜ r ≡ value-at (now (self .entry) .coefficients) x % power-of (now (self .entry) .modulus) ⌝ }
     {
         let mu = self.modulus.mu() as usize;

@@ -1,6 +1,6 @@
 use mathlib.Core.Path.{refl}
 use Rattle.marked.proofs.Examples.{marked}
-use Rattle.marked.proofs.marked_tables.Needs as need
+use Rattle.marked.proofs.lines.Needs as need
 
 pub returns : need.returns
 returns c = record { holds = marked; value = refl }

@@ -9,10 +9,10 @@ use lib.ListN.{getD, length}
 use Rattle.modulus.proofs.Congruences.{cong-refl, cong-sym, cong-add, cong-mul, cong-mod, mod-from-cong}
 use Rattle.modulus.proofs.Division.{product-small, mul-mod-left}
 use Rattle.poly.specs.Reduced.{falls, sum-to, value-at}
-use Rattle.poly.proofs.newton.evaluate.Needs as need
+use Rattle.poly.proofs.newton.sum_of_terms.Needs as need
 
 pub loop-c-holds : need.loop-c-holds
-loop-c-holds c = (sym (zero-mod (c .value-m .result)), sym (mod-eq-of-lt (c .value-m .ensures .above)), omega (arith, c .from-factor .ensures))
+loop-c-holds c = (sym (zero-mod (c .args .m)), sym (mod-eq-of-lt (c .pre .above)), omega (arith, c .from-factor .ensures))
 
 -- a remainder of the modulus has at most 16 bits
 small : (a b n : ℕ) → a ≡ b % n → 1 < n → n ≤ 65536 → a ≤ 65535
@@ -21,7 +21,7 @@ small a b n e h k = omega (arith, mod-lt b (let some : 0 < n = omega arith in so
 pub mul-sum : need.mul-sum
 mul-sum c =
     let element : c .from .result ≤ 65535 = omega (arith, c .from .ensures, c .typed .coefficients (c .loop-c .c-index) .fits) in
-    let product = small (c .loop-c .product) (falls (c .args .x) (c .loop-c .c-index)) (c .value-m .result) (c .loop-c .inv .1) (c .value-m .ensures .above) (c .value-m .ensures .small) in
+    let product = small (c .loop-c .product) (falls (c .args .x) (c .loop-c .c-index)) (c .args .m) (c .loop-c .inv .1) (c .pre .above) (c .pre .small) in
     record { fits = omega (arith, product-small (c .from .result) (c .loop-c .product) element product) }
 
 -- one term more
@@ -39,9 +39,9 @@ pub loop-c-again : need.loop-c-again
 loop-c-again c =
     let inv = c .loop-c .inv in
     let i = c .loop-c .c-index in
-    (sum-more (c .args .coefficients .now) (c .args .x) i (c .value-m .result) (c .loop-c .sum) (c .loop-c .product) (c .from .result) (inv .0) (inv .1) (c .from .ensures), product-more (c .args .x) i (c .value-m .result) (c .loop-c .product) (c .loop-c .factor) (inv .1) (inv .2), omega (arith, c .saturating-sub-factor .ensures, inv .2))
+    (sum-more (c .args .coefficients .now) (c .args .x) i (c .args .m) (c .loop-c .sum) (c .loop-c .product) (c .from .result) (inv .0) (inv .1) (c .from .ensures), product-more (c .args .x) i (c .args .m) (c .loop-c .product) (c .loop-c .factor) (inv .1) (inv .2), omega (arith, c .saturating-sub-factor .ensures, inv .2))
 
 pub returns : need.returns
 returns c =
     let all : c .loop-c .c-index ≡ length (c .args .coefficients .now) = omega arith in
-    c .loop-c .inv .0 ∙ ap (λ (n : ℕ). sum-to (c .args .coefficients .now) (c .args .x) n % c .value-m .result) all ∙ ap (λ (n : ℕ). value-at (c .args .coefficients .now) (c .args .x) % n) (c .value-m .ensures .is)
+    c .loop-c .inv .0 ∙ ap (λ (n : ℕ). sum-to (c .args .coefficients .now) (c .args .x) n % c .args .m) all

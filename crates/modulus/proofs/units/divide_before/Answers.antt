@@ -10,21 +10,7 @@ use Rattle.modulus.proofs.Bounds.{listed-prime, above-one, w-positive, v-mono}
 use Rattle.modulus.proofs.Congruences.{cong-from-mod}
 use Rattle.modulus.proofs.Division.{unit, unit-left, never, divides, bound-is, mul-mod-left}
 use Rattle.modulus.proofs.Exponents.{power-positive}
-use Rattle.modulus.proofs.listed.Modulus.divide_by_factorial.Needs as need
-
--- ---- from place μ on
-pub returns-then-rest-eq0 : need.returns-then-rest-eq0
-returns-then-rest-eq0 c =
-    let m = c .args .self .now in
-    let none : c .args .rest % m .value ≡ 0 = ap (λ (n : ℕ). c .args .rest % n) (sym (c .value-m .ensures .is)) ∙ c .if-rest-eq0 .taken in
-    (w-positive (m .prime) (m .exponent) (c .args .i) (m .listed), ap (λ (n : ℕ). n % m .value) (zero-mul (factorial (c .args .i))) ∙ zero-mod (m .value) ∙ sym none)
-
-pub returns-else-rest-eq0 : need.returns-else-rest-eq0
-returns-else-rest-eq0 c =
-    let m = c .args .self .now in
-    let reached : m .exponent ≤ v (m .prime) (c .args .i) = omega (arith, c .mu .ensures .least .0, v-mono (m .prime) (c .mu .result) (c .args .i) (c .if-i-mu .taken)) in
-    never (m .prime) (m .exponent) (m .value) (c .args .i) (m .exponent) (c .args .rest) (listed-prime (m .prime) (m .exponent) (m .listed)) (m .power) (omega arith) reached
-    (λ h. c .if-rest-eq0 .left (ap (λ (n : ℕ). c .args .rest % n) (c .value-m .ensures .is) ∙ sym (mod-mod (c .args .rest) (m .value)) ∙ ap (λ (n : ℕ). (c .args .rest % m .value) % n) (m .power) ∙ h))
+use Rattle.modulus.proofs.units.divide_before.Needs as need
 
 -- ---- before it: the power of p in i!
 shared : (q p k i g : ℕ) → q ≡ p → k ≡ v p i → g ≡ q ^ k → g ≡ p ^ v p i
@@ -41,7 +27,7 @@ div-result c = some (c .prime .result) (c .factorial-part .result .exponent) (c 
 
 pub returns-then-rest-shared-ne0 : need.returns-then-rest-shared-ne0
 returns-then-rest-shared-ne0 c =
-    let m = c .args .self .now in
+    let m = c .args .modulus .now in
     let k = c .factorial-part .ensures .exponent in
     let g = shared (c .prime .result) (m .prime) (c .factorial-part .result .exponent) (c .args .i) (c .power-shared .result) (c .prime .ensures .is) k (c .power-shared .ensures) in
     never (m .prime) (m .exponent) (m .value) (c .args .i) (v (m .prime) (c .args .i)) (c .args .rest) (listed-prime (m .prime) (m .exponent) (m .listed)) (m .power)
@@ -50,7 +36,7 @@ returns-then-rest-shared-ne0 c =
 
 pub inverse-requires : need.inverse-requires
 inverse-requires c κs =
-    let m = c .args .self .now in
+    let m = c .args .modulus .now in
     let r = c .factorial-part .ensures .rest in
     let P = listed-prime (m .prime) (m .exponent) (m .listed) in
     let power : unit (m .prime) (c .args .i) % m .value ≡ unit (m .prime) (c .args .i) % m .prime ^ m .exponent = ap (λ (n : ℕ). unit (m .prime) (c .args .i) % n) (m .power) in
@@ -60,20 +46,20 @@ inverse-requires c κs =
     }
 
 -- the bound of the place
-bound : (c : need.After-inverse) → c .value-m .result / c .power-shared .result ≡ w (c .args .self .now .prime) (c .args .self .now .exponent) (c .args .i)
+bound : (c : need.After-inverse) → c .value-m .result / c .power-shared .result ≡ w (c .args .modulus .now .prime) (c .args .modulus .now .exponent) (c .args .i)
 bound c =
-    let m = c .args .self .now in
+    let m = c .args .modulus .now in
     let k = c .factorial-part .ensures .exponent in
     let g = shared (c .prime .result) (m .prime) (c .factorial-part .result .exponent) (c .args .i) (c .power-shared .result) (c .prime .ensures .is) k (c .power-shared .ensures) in
     ap (λ (n : ℕ). c .value-m .result / n) g
     ∙ bound-is (m .prime) (m .exponent) (v (m .prime) (c .args .i)) (c .value-m .result) (listed-prime (m .prime) (m .exponent) (m .listed) .above) (c .value-m .ensures .power) (omega (arith, c .factorial-part .ensures .below, k))
 
 pub rem-result : need.rem-result
-rem-result c = rw (bound c) (w-positive (c .args .self .now .prime) (c .args .self .now .exponent) (c .args .i) (c .args .self .now .listed))
+rem-result c = rw (bound c) (w-positive (c .args .modulus .now .prime) (c .args .modulus .now .exponent) (c .args .i) (c .args .modulus .now .listed))
 
 pub returns : need.returns
 returns c =
-    let m = c .args .self .now in
+    let m = c .args .modulus .now in
     let p = m .prime in
     let e = m .exponent in
     let i = c .args .i in
