@@ -1,7 +1,7 @@
 -- What the fit's own promises give for the book: one use, and one entry more. Assumes nothing.
 use mathlib.Core.Path.{_≡_, refl, sym, ap, subst, _∙_}
 use mathlib.Core.List.{List, [], _∷_, _++_}
-use Prim.Native.Nat.{ℕ, _+_, _^_, _≤_, _<_}
+use Prim.Native.Nat.{ℕ, _+_, _^_, _<_}
 use native.Mathlib.Omega.{arith}
 use lib.ListN.{length, getD, take}
 use Rattle.std.specs.declared.result.Result.{Result}
@@ -11,10 +11,10 @@ use Rattle.modulus.specs.declared.listed.Modulus.{Modulus}
 use Rattle.modulus.specs.declared.refusal.Refusal.{Refusal}
 use Rattle.poly.proofs.Reports.{reported}
 use Rattle.fit.specs.Rules.{No-offer, full, large, unfit, Offered, No-withdrawal, none}
-use Rattle.fit.specs.Standing.{power-of, stands}
+use Rattle.fit.specs.Standing.{stands}
 use Rattle.fit.specs.declared.table.Fit.{Fit}
 use Rattle.fit.specs.declared.table.offer.Accepted.{Accepted}
-use Rattle.desk.specs.Book.{Sheet, sheet, fresh, Refuses, refuses-offer, refuses-withdrawal, Gives, stands-now, goes, Due, turned-away, answered, Book, closed, entry}
+use Rattle.desk.specs.Book.{Sheet, sheet, fresh, Refuses, refuses-offer, refuses-withdrawal, stands-now, goes, Due, turned-away, answered, Book, closed, entry}
 use Rattle.desk.specs.Desk.{sheet-of, Carried-out}
 use Rattle.desk.specs.declared.uses.Use.{Use}
 use Rattle.desk.specs.declared.uses.Use.the-variants.{Offer, Withdraw}

@@ -1,14 +1,13 @@
 -- Two laws of the book: it leaves nothing open, and the values of a reduced polynomial lead back to it. Rests on the book and on reduced forms.
 use mathlib.Core.Path.{_≡_}
-use mathlib.Core.List.{List, [], _∷_, _++_, map}
+use mathlib.Core.List.{List, map}
 use Prim.Native.Nat.{ℕ, _^_, _≤_, _<_}
 use lib.ListN.{getD}
 use Rattle.std.specs.declared.result.Result.{Result}
-use Rattle.std.specs.declared.result.Result.the-variants.{Ok, Err}
+use Rattle.std.specs.declared.result.Result.the-variants.{Ok}
 use Rattle.modulus.specs.Moduli.{Listed}
 use Rattle.modulus.specs.declared.refusal.Refusal.{Refusal}
 use Rattle.poly.specs.Reduced.{Reduced, Reported, Same-form, form-length, standing}
-use Rattle.fit.specs.declared.table.offer.Accepted.{Accepted}
 use Rattle.desk.specs.Book.{Sheet, fresh, Book}
 use Rattle.desk.specs.declared.uses.Use.{Use}
 use Rattle.desk.specs.declared.uses.Use.the-variants.{Offer}

@@ -1,7 +1,7 @@
 -- What one coefficient more, and one less, makes of a fit. Assumes nothing.
-use mathlib.Core.Path.{_≡_, refl, sym, ap, subst, _∙_}
+use mathlib.Core.Path.{_≡_, sym, ap, subst, _∙_}
 use mathlib.Core.List.{List, [], _∷_, _++_}
-use Prim.Native.Nat.{ℕ, suc, _+_, _*_, _%_, _^_, _≤_, _<_}
+use Prim.Native.Nat.{ℕ, suc, _+_, _*_, _%_, _≤_, _<_}
 use native.Mathlib.Decide.{ℕ-discrete}
 use native.Mathlib.Numerals.{add-one}
 use native.Mathlib.Omega.{arith}
@@ -81,6 +81,7 @@ out-of-range f y r at-full past = go (ℕ-discrete (f .count) (f .modulus .value
   where
     len : length (stands f) ≡ f .count
     len = length-standing (power-of (f .modulus)) (f .coefficients) (f .count)
+
     go : Dec (f .count ≡ f .modulus .value) → No-offer (power-of (f .modulus)) (stands f) y r
     go (yes all) = subst (λ (x : Refusal). No-offer (power-of (f .modulus)) (stands f) y x) (sym (at-full all)) (is-full (power-of (f .modulus)) (f .count) y (stands f) len (all ∙ f .modulus .power))
     go (no room) =

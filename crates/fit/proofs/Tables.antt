@@ -1,19 +1,19 @@
 -- Steps of a table: what the coefficients past μ are, one value more, one value less. Assumes nothing.
-use mathlib.Core.Path.{_≡_, refl, sym, ap, subst, _∙_}
-use mathlib.Core.List.{List, [], _∷_, _++_}
-use Prim.Native.Nat.{ℕ, zero, suc, _+_, _*_, _-_, _%_, _^_, _≤_, _<_, min}
+use mathlib.Core.Path.{_≡_, refl, sym, _∙_}
+use mathlib.Core.List.{List}
+use Prim.Native.Nat.{ℕ, zero, suc, _+_, _-_, _%_, _≤_, _<_}
 use native.Mathlib.Decide.{decLt, ℕ-discrete}
 use native.Mathlib.Nat.{mod-mod}
 use native.Mathlib.Omega.{arith}
 use lib.IntN.{ℤ, pos, _+ℤ_, _-ℤ_, negℤ}
 use lib.ListN.{length, getD, set, take, replicate}
 use Rattle.std.proofs.shelf.Lists.{getD-take, getD-past, length-take, length-set, getD-set-same, getD-set-other}
-use Rattle.modulus.specs.Bounds.{factorial, w, Mu}
+use Rattle.modulus.specs.Bounds.{w, Mu}
 use Rattle.modulus.specs.Congruence.{Cong}
 use Rattle.modulus.proofs.Bounds.{w-past}
-use Rattle.modulus.proofs.Congruences.{cong-refl, cong-path, cong-sym, cong-trans, cong-add, cong-mod, cong-less, cong-from-mod, mod-from-cong}
+use Rattle.modulus.proofs.Congruences.{cong-refl, cong-path, cong-sym, cong-trans, cong-add, cong-less, cong-from-mod, mod-from-cong}
 use Rattle.modulus.proofs.Integers.{zlin}
-use Rattle.poly.specs.Reduced.{Reduced, value-at, standing}
+use Rattle.poly.specs.Reduced.{Reduced, value-at}
 use Rattle.poly.proofs.Standing.{value-same}
 
 -- a list of zeros reads 0 everywhere

@@ -20,7 +20,7 @@ pub const PLACES: usize = 52;
 pub struct Fit {
     modulus: Modulus,
     count: u32,
-    coefficients: [u16; 52],
+    coefficients: [u16; PLACES],
     ghost within: { count ≤ modulus .value },
     ghost reduced: { Reduced (modulus .prime) (modulus .exponent) coefficients },
     ghost clear: { (k : ℕ) → count ≤ k → getD coefficients k 0 ≡ 0 },

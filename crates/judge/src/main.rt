@@ -49,7 +49,11 @@ fn print_answer(rt: &LibcRuntime, answer: Result<Answer, Refusal>) -> Result<(),
 }
 
 // A line for each use.
-fn print_uses(rt: &LibcRuntime, uses: &[Use], answers: &[Result<Answer, Refusal>]) -> Result<(), AnyError> {
+fn print_uses(
+    rt: &LibcRuntime,
+    uses: &[Use],
+    answers: &[Result<Answer, Refusal>],
+) -> Result<(), AnyError> {
     for (asked, answer) in uses.iter().zip(answers.iter()) {
         match *asked {
             Use::Offer { value } => print!(rt, "  offer {value}: ")?,
@@ -146,6 +150,20 @@ fn print_counts(rt: &LibcRuntime, p: u32) -> Result<(), AnyError> {
     Ok(())
 }
 
+// The count of one modulus, in words.
+fn print_count(rt: &LibcRuntime, p: u32, e: u32) -> Result<(), AnyError> {
+    print!(rt, "  {p}^{e}: ")?;
+    match count(p, e) {
+        Ok(c) => {
+            let mu = c.mu;
+            let digits = c.digits;
+            println!(rt, "{mu} open places, {digits} digits")?;
+        }
+        Err(refusal) => print_refusal(rt, refusal)?,
+    }
+    Ok(())
+}
+
 fn tables(rt: &LibcRuntime) -> Result<(), AnyError> {
     judge_table(rt, 2, 3, &[0, 1, 4, 1, 0])?;
     judge_table(rt, 2, 3, &[0, 1, 4, 1, 1])?;
@@ -177,7 +195,10 @@ fn run(rt: &LibcRuntime) -> Result<(), AnyError> {
     judge_table(rt, 2, 17, &[0, 1])?;
     println!(rt, "A full fit")?;
     judge_full(rt)?;
-    println!(rt, "Counts: open places / digits for each listed exponent, from 1")?;
+    println!(
+        rt,
+        "Counts: open places / digits for each listed exponent, from 1"
+    )?;
     for p in [2, 3, 5, 7, 11, 13, 17] {
         print_counts(rt, p)?;
     }

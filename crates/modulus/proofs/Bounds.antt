@@ -1,12 +1,11 @@
 -- Bounds and the number of places that they leave open. Assumes nothing.
-use mathlib.Core.Path.{_≡_, refl, sym, ap, subst, _∙_}
-use Prim.Native.Nat.{ℕ, zero, suc, _+_, _*_, _-_, _%_, _/_, _^_, _≤_, _<_}
-use native.Mathlib.Nat.{pow-zero, pow-suc, pow-le-pow-right, le-trans, le-refl, sub-eq-zero-of-le}
+use mathlib.Core.Path.{_≡_, ap, subst, _∙_}
+use Prim.Native.Nat.{ℕ, zero, suc, _+_, _*_, _-_, _^_, _≤_, _<_}
+use native.Mathlib.Nat.{pow-zero, pow-suc, pow-le-pow-right, le-trans, le-refl}
 use native.Mathlib.Omega.{arith}
-use lib.Dec.{T, lit<, lit≤}
-use lib.Pow.{pow-add}
+use lib.Dec.{lit≤}
 use Rattle.modulus.specs.Moduli.{greatest, Listed}
-use Rattle.modulus.specs.Bounds.{exponent, v, w, Mu, open-digits}
+use Rattle.modulus.specs.Bounds.{v, w, Mu}
 use Rattle.modulus.proofs.Primes.{Prime, prime, by-prime}
 use Rattle.modulus.proofs.Exponents.{power-positive}
 

@@ -1,12 +1,12 @@
 -- The laws of congruence: sums and products, remainders, other moduli, and what can be cancelled. Assumes nothing.
-use mathlib.Core.Path.{_≡_, refl, sym, ap, subst, _∙_}
-use Prim.Native.Nat.{ℕ, zero, suc, _+_, _*_, _-_, _%_, _/_, _^_, _≤_, _<_}
+use mathlib.Core.Path.{_≡_, sym, ap, subst, _∙_}
+use Prim.Native.Nat.{ℕ, suc, _+_, _*_, _-_, _%_, _/_, _^_, _≤_, _<_}
 use native.Mathlib.Decide.{decLe}
 use native.Mathlib.Nat.{mod-lt, one-mul, mod-add-div', add-mul-mod-self-right, mod-eq-of-lt, pow-zero, one-le-pow, eq-of-mul-eq-mul-right}
 use native.Mathlib.Omega.{arith}
 use lib.IntN.{ℤ, pos, negsuc, _+ℤ_, _-ℤ_, _*ℤ_, negℤ}
 use lib.Pow.{pow-add}
-use borrow.Author.Differences.{up, down, sum-is, neg-is, product-is, same-in, same-out}
+use borrow.Author.Differences.{up, down, sum-is, product-is, same-in, same-out}
 use Rattle.modulus.specs.Congruence.{Cong}
 use Rattle.modulus.proofs.Integers.{zring, zlin, *ℤ-assoc}
 

@@ -1,18 +1,17 @@
 -- Division by i! modulo p ^ e: the unit that is left of i!, its inverse by doubling the digits that are right, and which numbers can be divided.
 -- Assumes nothing.
-use mathlib.Core.Path.{_≡_, refl, sym, ap, subst, _∙_}
+use mathlib.Core.Path.{_≡_, sym, ap, subst, _∙_}
 use Prim.Native.Nat.{ℕ, zero, suc, _+_, _*_, _-_, _%_, _/_, _^_, _∣_, _≤_, _<_, min}
-use native.Mathlib.Nat.{mul-le-mul, dvd-mul-right, mod-eq-zero-of-dvd, dvd-mul-left-of-dvd, pow-zero, pow-suc, div-add-mod, mod-lt, mod-eq-of-lt, mul-div-cancel-left, mul-mod-right, mod-mod, zero-mod, add-mul-mod-self-left}
+use native.Mathlib.Nat.{mul-le-mul, dvd-mul-right, mod-eq-zero-of-dvd, dvd-mul-left-of-dvd, pow-suc, div-add-mod, mul-div-cancel-left, mod-mod}
 use native.Mathlib.Omega.{arith}
 use lib.Pow.{pow-add}
 use lib.IntN.{ℤ, pos, _+ℤ_, _-ℤ_, _*ℤ_, negℤ}
 use Rattle.modulus.specs.Congruence.{Cong}
-use Rattle.modulus.specs.Moduli.{greatest, Listed}
-use Rattle.modulus.specs.Bounds.{factorial, exponent, v, w, Mu}
+use Rattle.modulus.specs.Bounds.{factorial, exponent, v}
 use Rattle.modulus.proofs.Integers.{zring, zlin}
-use Rattle.modulus.proofs.Congruences.{cong-refl, cong-path, cong-sym, cong-trans, cong-add, cong-mul, cong-neg, cong-mod, cong-from-mod, mod-from-cong, cong-less, cong-factor, cong-lower, cong-scale}
+use Rattle.modulus.proofs.Congruences.{cong-refl, cong-path, cong-sym, cong-trans, cong-mul, cong-mod, cong-from-mod, mod-from-cong, cong-less, cong-factor, cong-lower, cong-scale}
 use Rattle.modulus.proofs.Primes.{Prime, Inverse}
-use Rattle.modulus.proofs.Exponents.{Parts, factorial-parts, power-positive, unit-not-divided, cancel-left}
+use Rattle.modulus.proofs.Exponents.{factorial-parts, power-positive, unit-not-divided, cancel-left}
 
 -- ---- remainders of products
 pub mul-mod : (m a b : ℕ) → (a % m * (b % m)) % m ≡ (a * b) % m

@@ -7,15 +7,14 @@ use mathlib.Core.Path.{_≡_, refl, sym, ap, subst, _∙_}
 use mathlib.Core.Logic.{∥∥₁-elim}
 use mathlib.Core.HLevel.{⊥-prop}
 use Prim.Native.Nat.{ℕ, zero, suc, _+_, _*_, _-_, _%_, _/_, _^_, _∣_, _≤_, _<_}
-use native.Mathlib.Nat.{zero-mod, pow-zero, pow-suc, div-add-mod, mod-lt, mul-mod-right, mul-add-mod-self-left, div-lt-self, dvd-mul-right, mod-eq-zero-of-dvd, mul-div-cancel-left}
+use native.Mathlib.Nat.{zero-mod, pow-zero, pow-suc, div-add-mod, mod-lt, mul-mod-right, div-lt-self, dvd-mul-right, mul-div-cancel-left}
 use native.Mathlib.Omega.{arith}
 use lib.Pow.{pow-add}
-use lib.IntN.{ℤ, pos, _+ℤ_, _-ℤ_, _*ℤ_, negℤ, zero-*ℤ}
+use lib.IntN.{pos, zero-*ℤ}
 use Rattle.modulus.specs.Congruence.{Cong}
-use Rattle.modulus.specs.Moduli.{greatest, Listed}
-use Rattle.modulus.specs.Bounds.{Exponent, factorial, more, exponent-within, exponent, v, w, Mu}
+use Rattle.modulus.specs.Bounds.{Exponent, factorial, more, exponent-within, exponent, v}
 use Rattle.modulus.proofs.Congruences.{cong-refl, cong-path, cong-sym, cong-trans, cong-mul, cong-from-mod, same-from-cong}
-use Rattle.modulus.proofs.Primes.{Prime, prime, Inverse, inverse-product}
+use Rattle.modulus.proofs.Primes.{Prime, Inverse, inverse-product}
 
 -- what p does not divide has an inverse modulo p
 pub residue-inverse : (p : ℕ) → Prime p → (u : ℕ) → 0 < u % p → Inverse p (pos u)

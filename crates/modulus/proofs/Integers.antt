@@ -2,10 +2,10 @@
 --     zring    for simp: closes an equation between sums and products
 --     zlin     for omega: closes what is linear in the integers, with cancellation
 -- Assumes nothing.
-use mathlib.Core.Path.{_≡_, refl, sym, ap, _∙_}
-use Prim.Native.Nat.{ℕ, zero, suc, _+_, _*_, _-_, _≤_, _<_}
+use mathlib.Core.Path.{_≡_, ap, _∙_}
+use Prim.Native.Nat.{ℕ, _+_, _*_}
 use native.Mathlib.Omega.{arith}
-use lib.IntN.{ℤ, pos, negsuc, _+ℤ_, _-ℤ_, _*ℤ_, negℤ, +ℤ-idl, +ℤ-idr, +ℤ-assoc, +ℤ-comm, +ℤ-invl, +ℤ-invr, negℤ-+ℤ, negℤ-negℤ, *ℤ-comm, *ℤ-zero, zero-*ℤ, pos-+ℤ-pos, pos-*ℤ-pos}
+use lib.IntN.{ℤ, pos, negsuc, _+ℤ_, _*ℤ_, negℤ, +ℤ-idl, +ℤ-idr, +ℤ-assoc, +ℤ-comm, negℤ-+ℤ, negℤ-negℤ, *ℤ-comm, *ℤ-zero, zero-*ℤ}
 use borrow.Author.Differences.{up, down, sum-is, neg-is, product-is, same-in, same-out}
 
 up-mul : (a b : ℤ) → up (a *ℤ b) ≡ up a * up b + down a * down b

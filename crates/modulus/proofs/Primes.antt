@@ -2,16 +2,16 @@
 -- Assumes nothing.
 use mathlib.Core.Path.{_≡_, refl, sym, ap, subst, _∙_}
 use mathlib.Core.Bool.{Bool, true, false, cond}
-use Prim.Native.Nat.{ℕ, zero, suc, _+_, _*_, _-_, _%_, _/_, _^_, _≤_, _<_}
+use Prim.Native.Nat.{ℕ, zero, suc, _*_, _-_, _%_, _^_, _≤_, _<_}
 use native.Mathlib.Nat.{pow-zero, pow-suc}
 use native.Mathlib.Decide.{ℕ-discrete}
 use native.Mathlib.Omega.{arith}
-use lib.Dec.{T, eqb, eqb→eq, lit<, lit≤}
+use lib.Dec.{T, eqb, eqb→eq, lit<}
 use lib.IntN.{ℤ, pos, _+ℤ_, _-ℤ_, _*ℤ_, negℤ}
 use Rattle.modulus.specs.Congruence.{Cong}
-use Rattle.modulus.specs.Moduli.{greatest, Listed}
+use Rattle.modulus.specs.Moduli.{greatest}
 use Rattle.modulus.proofs.Integers.{zring, zlin}
-use Rattle.modulus.proofs.Congruences.{cong-refl, cong-path, cong-sym, cong-trans, cong-add, cong-mul, cong-one}
+use Rattle.modulus.proofs.Congruences.{cong-path, cong-trans, cong-mul, cong-one}
 
 -- ---- the seven primes
 pick : (P : ℕ → Type 0) (p k a rest : ℕ) → (1 ≤ rest → P p) → P k → 1 ≤ cond (eqb p k) a rest → P p

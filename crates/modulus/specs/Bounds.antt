@@ -1,5 +1,4 @@
 -- The exponent of p in i!, the bound of a place, and the number of places that a bound leaves open. Rests on nothing.
-use mathlib.Core.Path.{_≡_}
 use Prim.Native.Nat.{ℕ, zero, suc, _+_, _-_, _*_, _/_, _%_, _^_, _∣_, _≤_, _<_}
 
 -- k is the exponent of p in n: p ^ k divides n and no higher power of p does

@@ -87,7 +87,11 @@ fn divide_past(modulus: &Modulus, i: u32, rest: u32) -> Option<u32>
     requires { ⌜ now modulus .mu ≤ i ⌝ }
     ensures { λ r. ⌜ Quotient (now (modulus .entry)) i rest r ⌝ }
 {
-    if rest % modulus.value() == 0 { Some(0) } else { None }
+    if rest % modulus.value() == 0 {
+        Some(0)
+    } else {
+        None
+    }
 }
 
 // The same before place μ: the power of p in i! has to divide the rest, and what is left of i! has an inverse.

@@ -1,5 +1,4 @@
 -- Integer polynomials, their values and what they take modulo m. Rests on the integers and on congruence.
-use mathlib.Core.Path.{_≡_}
 use mathlib.Core.List.{List, [], _∷_}
 use Prim.Native.Nat.{ℕ, zero, suc, _≤_, _<_}
 use lib.IntN.{ℤ, pos, _+ℤ_, _*ℤ_, negℤ}

@@ -5,6 +5,7 @@ ghost use Rattle.std.specs.Results.{Cases};
 ghost use Rattle.fit.specs.Standing.{stands};
 ghost use Rattle.modulus.specs.Moduli.{Listed};
 use crate::table::Fit;
+use crate::table::PLACES;
 use modulus::listed::Modulus;
 use modulus::refusal::Refusal;
 
@@ -15,7 +16,7 @@ fn empty(modulus: Modulus) -> Fit
     Fit {
         modulus,
         count: 0,
-        coefficients: [0; 52],
+        coefficients: [0; PLACES],
     }
 }
 

@@ -1,13 +1,12 @@
-use mathlib.Core.Path.{_≡_, sym, ap, subst, _∙_}
-use mathlib.Core.List.{List, [], _∷_, _++_}
+use mathlib.Core.Path.{sym, ap, subst, _∙_}
+use mathlib.Core.List.{List, []}
 use Prim.Native.Nat.{ℕ, _+_, _≤_}
-use native.Mathlib.Omega.{arith}
-use lib.ListN.{length, take}
-use Rattle.std.specs.Of.Vec.{vec-cap, vec-items, vec-len}
+use lib.ListN.{length}
+use Rattle.std.specs.Of.Vec.{vec-items}
 use Rattle.std.specs.declared.result.Result.{Result}
 use Rattle.std.proofs.shelf.Lists.{take-all}
 use Rattle.modulus.specs.declared.refusal.Refusal.{Refusal}
-use Rattle.desk.specs.Book.{Sheet, Book, closed}
+use Rattle.desk.specs.Book.{Book, closed}
 use Rattle.desk.specs.Desk.{sheet-of}
 use Rattle.desk.specs.declared.uses.Answer.{Answer}
 use Rattle.desk.specs.declared.uses.Use.{Use}

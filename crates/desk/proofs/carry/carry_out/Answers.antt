@@ -1,5 +1,4 @@
-use mathlib.Core.Path.{_≡_, refl, sym, ap, subst, _∙_}
-use Prim.Native.Nat.{ℕ}
+use mathlib.Core.Path.{refl, sym, subst}
 use Rattle.std.proofs.shelf.Results.{err-from-errBy}
 use Rattle.desk.specs.Stops.{Stops, off-the-list, no-memory}
 use Rattle.desk.specs.declared.carry.Stopped.the-variants.{Refused}

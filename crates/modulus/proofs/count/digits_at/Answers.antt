@@ -1,7 +1,4 @@
-use mathlib.Core.Path.{_≡_, sym, ap, _∙_}
-use Prim.Native.Nat.{ℕ, _-_, _≤_}
 use native.Mathlib.Omega.{arith}
-use Rattle.modulus.specs.Bounds.{v}
 use Rattle.modulus.proofs.Bounds.{v-mono, listed-prime}
 use Rattle.modulus.proofs.Exponents.{exponent-is}
 use Rattle.modulus.proofs.count.digits_at.Needs as need

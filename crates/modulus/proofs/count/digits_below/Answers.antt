@@ -1,10 +1,9 @@
-use mathlib.Core.Path.{_≡_, refl, sym, ap, _∙_}
-use Prim.Native.Nat.{ℕ, suc, _+_, _*_, _-_, _<_, _≤_}
-use native.Mathlib.Nat.{mul-le-mul}
+use mathlib.Core.Path.{_≡_, ap, _∙_}
+use Prim.Native.Nat.{ℕ, suc, _+_, _*_, _≤_}
 use native.Mathlib.Numerals.{add-one}
 use native.Mathlib.Omega.{arith}
-use Rattle.modulus.specs.Bounds.{v, exponent, open-digits}
-use Rattle.modulus.specs.Moduli.{Listed, greatest}
+use Rattle.modulus.specs.Bounds.{exponent, open-digits}
+use Rattle.modulus.specs.Moduli.{greatest}
 use Rattle.modulus.proofs.Bounds.{greatest-small}
 use Rattle.modulus.proofs.count.digits_below.Needs as need
 

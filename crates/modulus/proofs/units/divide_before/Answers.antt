@@ -1,12 +1,11 @@
-use mathlib.Core.Path.{_≡_, refl, sym, ap, subst, _∙_}
-use Prim.Native.Nat.{ℕ, suc, _+_, _*_, _-_, _/_, _%_, _^_, _<_, _≤_}
-use native.Mathlib.Nat.{mod-lt, mod-mod, mod-eq-of-lt, zero-mod, zero-mul}
+use mathlib.Core.Path.{_≡_, sym, ap, _∙_}
+use Prim.Native.Nat.{ℕ, _*_, _/_, _%_, _^_, _<_}
+use native.Mathlib.Nat.{mod-lt, mod-eq-of-lt}
 use native.Mathlib.Omega.{arith}
 use lib.IntN.{pos}
 use Rattle.modulus.specs.Congruence.{Cong}
 use Rattle.modulus.specs.Bounds.{factorial, v, w}
-use Rattle.modulus.specs.Moduli.{Listed}
-use Rattle.modulus.proofs.Bounds.{listed-prime, above-one, w-positive, v-mono}
+use Rattle.modulus.proofs.Bounds.{listed-prime, w-positive}
 use Rattle.modulus.proofs.Congruences.{cong-from-mod}
 use Rattle.modulus.proofs.Division.{unit, unit-left, never, divides, bound-is, mul-mod-left}
 use Rattle.modulus.proofs.Exponents.{power-positive}

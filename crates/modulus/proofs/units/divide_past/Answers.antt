@@ -1,15 +1,10 @@
-use mathlib.Core.Path.{_≡_, refl, sym, ap, subst, _∙_}
-use Prim.Native.Nat.{ℕ, suc, _+_, _*_, _-_, _/_, _%_, _^_, _<_, _≤_}
-use native.Mathlib.Nat.{mod-lt, mod-mod, mod-eq-of-lt, zero-mod, zero-mul}
+use mathlib.Core.Path.{_≡_, sym, ap, _∙_}
+use Prim.Native.Nat.{ℕ, _%_, _≤_}
+use native.Mathlib.Nat.{mod-mod, zero-mod, zero-mul}
 use native.Mathlib.Omega.{arith}
-use lib.IntN.{pos}
-use Rattle.modulus.specs.Congruence.{Cong}
-use Rattle.modulus.specs.Bounds.{factorial, v, w}
-use Rattle.modulus.specs.Moduli.{Listed}
-use Rattle.modulus.proofs.Bounds.{listed-prime, above-one, w-positive, v-mono}
-use Rattle.modulus.proofs.Congruences.{cong-from-mod}
-use Rattle.modulus.proofs.Division.{unit, unit-left, never, divides, bound-is, mul-mod-left}
-use Rattle.modulus.proofs.Exponents.{power-positive}
+use Rattle.modulus.specs.Bounds.{factorial, v}
+use Rattle.modulus.proofs.Bounds.{listed-prime, w-positive, v-mono}
+use Rattle.modulus.proofs.Division.{never}
 use Rattle.modulus.proofs.units.divide_past.Needs as need
 
 pub returns-then-rest-value-eq0 : need.returns-then-rest-value-eq0
@@ -24,4 +19,3 @@ returns-else-rest-value-eq0 c =
     let reached : m .exponent ≤ v (m .prime) (c .args .i) = omega (arith, m .least .0, v-mono (m .prime) (m .mu) (c .args .i) (c .pre)) in
     never (m .prime) (m .exponent) (m .value) (c .args .i) (m .exponent) (c .args .rest) (listed-prime (m .prime) (m .exponent) (m .listed)) (m .power) (omega arith) reached
     (λ h. c .if-rest-value-eq0 .left (ap (λ (n : ℕ). c .args .rest % n) (c .value .ensures .is) ∙ sym (mod-mod (c .args .rest) (m .value)) ∙ ap (λ (n : ℕ). (c .args .rest % m .value) % n) (m .power) ∙ h))
-

@@ -1,10 +1,10 @@
-use mathlib.Core.Path.{_≡_, refl, sym, ap, subst, _∙_}
-use Prim.Native.Nat.{ℕ, suc, _+_, _*_, _-_, _%_, _^_, _<_, _≤_, min}
+use mathlib.Core.Path.{_≡_, sym, ap, subst, _∙_}
+use Prim.Native.Nat.{ℕ, _+_, _*_, _-_, _%_, _^_, _<_, _≤_, min}
 use native.Mathlib.Nat.{mod-lt, mod-eq-of-lt, pow-le-pow-right}
 use native.Mathlib.Omega.{arith}
 use lib.IntN.{pos}
 use Rattle.modulus.specs.Congruence.{Cong}
-use Rattle.modulus.specs.Moduli.{Listed, greatest}
+use Rattle.modulus.specs.Moduli.{greatest}
 use Rattle.modulus.proofs.Bounds.{greatest-small, power-one, above-one}
 use Rattle.modulus.proofs.Congruences.{cong-from-mod, mod-from-cong}
 use Rattle.modulus.proofs.Division.{inverse-round}

@@ -1,6 +1,6 @@
-use mathlib.Core.Path.{_≡_, refl, sym, ap, _∙_}
+use mathlib.Core.Path.{_≡_, sym, ap, _∙_}
 use mathlib.Core.List.{List}
-use Prim.Native.Nat.{ℕ, suc, _+_, _*_, _-_, _%_, _<_, _≤_}
+use Prim.Native.Nat.{ℕ, _+_, _*_, _-_, _%_, _<_, _≤_}
 use native.Mathlib.Nat.{mod-lt, mod-eq-of-lt, zero-mod}
 use native.Mathlib.Numerals.{add-one}
 use native.Mathlib.Omega.{arith}
@@ -8,7 +8,7 @@ use lib.IntN.{pos}
 use lib.ListN.{getD, length}
 use Rattle.modulus.proofs.Congruences.{cong-refl, cong-sym, cong-add, cong-mul, cong-mod, mod-from-cong}
 use Rattle.modulus.proofs.Division.{product-small, mul-mod-left}
-use Rattle.poly.specs.Reduced.{falls, sum-to, value-at}
+use Rattle.poly.specs.Reduced.{falls, sum-to}
 use Rattle.poly.proofs.newton.sum_of_terms.Needs as need
 
 pub loop-c-holds : need.loop-c-holds

@@ -1,8 +1,6 @@
-use mathlib.Core.Path.{_≡_, refl, sym, ap, subst, _∙_}
-use mathlib.Core.List.{List, [], _∷_, _++_}
-use Prim.Native.Nat.{ℕ, _<_}
+use mathlib.Core.Path.{refl}
+use Prim.Native.Nat.{_<_}
 use native.Mathlib.Omega.{arith}
-use Rattle.poly.proofs.Standing.{length-standing}
 use Rattle.fit.specs.Standing.{power-of}
 use Rattle.fit.proofs.Offers.{Grown, grown, offered, is-unfit}
 use Rattle.fit.proofs.table.Fit.fit_in.Needs as need

@@ -1,9 +1,7 @@
-use mathlib.Core.Path.{_≡_, sym, ap, subst, _∙_}
-use Prim.Native.Nat.{ℕ, _+_, _*_, _-_, _%_, _^_, _<_, _≤_}
+use mathlib.Core.Path.{_≡_, sym, ap, _∙_}
+use Prim.Native.Nat.{ℕ, _+_, _*_, _-_, _%_, _<_}
 use native.Mathlib.Omega.{arith}
-use lib.IntN.{pos}
-use Rattle.modulus.specs.Bounds.{factorial, w}
-use Rattle.modulus.specs.Congruence.{Cong}
+use Rattle.modulus.specs.Bounds.{factorial}
 use Rattle.modulus.proofs.Bounds.{w-small, power-small}
 use Rattle.poly.specs.Reduced.{value-at}
 use Rattle.poly.proofs.Reports.{no-fit}

@@ -1,14 +1,12 @@
-use mathlib.Core.Path.{_≡_, refl, sym, ap, subst, _∙_}
-use mathlib.Core.List.{[]}
-use Prim.Native.Nat.{ℕ, suc, _+_, _-_, _%_, _^_, _<_, _≤_}
+use mathlib.Core.Path.{_≡_, refl, _∙_}
+use Prim.Native.Nat.{ℕ, suc, _-_, _<_, _≤_}
 use native.Mathlib.Decide.{ℕ-discrete}
 use native.Mathlib.Nat.{mod-lt}
 use lib.ListN.{getD, set}
 use native.Mathlib.Omega.{arith}
 use Rattle.std.proofs.shelf.Lists.{getD-set-other}
 use Rattle.modulus.proofs.Bounds.{power-small, above-one, w-positive}
-use Rattle.poly.specs.Reduced.{standing, value-at}
-use Rattle.fit.specs.Rules.{none}
+use Rattle.poly.specs.Reduced.{value-at}
 use Rattle.fit.specs.Standing.{power-of}
 use Rattle.fit.specs.declared.table.Fit.{Fit}
 use Rattle.fit.proofs.Offers.{shrunk}

@@ -1,15 +1,12 @@
-use mathlib.Core.Path.{_≡_, refl, sym, ap, subst, _∙_}
-use mathlib.Core.List.{List, _++_}
-use Prim.Native.Nat.{ℕ, _+_, _-_, _^_, _<_, _≤_, min}
+use mathlib.Core.Path.{_≡_, sym, ap, subst, _∙_}
+use mathlib.Core.List.{List}
+use Prim.Native.Nat.{ℕ, _-_, _≤_}
 use native.Mathlib.Decide.{decLe}
 use native.Mathlib.Omega.{arith}
 use lib.ListN.{length, getD, take, drop}
 use Rattle.std.proofs.shelf.Lists.{take-at, drop-at, length-take-le}
-use Rattle.modulus.specs.declared.refusal.Refusal.{Refusal}
-use Rattle.modulus.specs.declared.refusal.Refusal.the-variants.{ShortBuffer}
 use Rattle.poly.specs.Reduced.{Reported}
-use Rattle.poly.proofs.Standing.{length-standing}
-use Rattle.fit.specs.Standing.{power-of, stands, report-length}
+use Rattle.fit.specs.Standing.{stands, report-length}
 use Rattle.fit.specs.declared.table.Fit.{Fit}
 use Rattle.fit.proofs.Offers.{reports}
 use Rattle.fit.proofs.Tables.{past-mu, front-same}

@@ -1,5 +1,3 @@
-use mathlib.Core.Path.{sym}
-use Prim.Native.Nat.{ℕ, _<_}
 use native.Mathlib.Omega.{arith}
 use Rattle.modulus.proofs.Bounds.{w-positive}
 use Rattle.fit.proofs.Tables.{zeros}
