@@ -195,9 +195,11 @@ fn run(rt: &LibcRuntime) -> Result<(), AnyError> {
     judge_table(rt, 2, 17, &[0, 1])?;
     println!(rt, "A full fit")?;
     judge_full(rt)?;
+    println!(rt, "Counts")?;
+    print_count(rt, 2, 8)?;
     println!(
         rt,
-        "Counts: open places / digits for each listed exponent, from 1"
+        "Counts of every listed modulus: open places / digits for each exponent, from 1"
     )?;
     for p in [2, 3, 5, 7, 11, 13, 17] {
         print_counts(rt, p)?;
