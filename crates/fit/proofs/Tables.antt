@@ -14,26 +14,13 @@ use Rattle.modulus.proofs.Bounds.{w-past}
 use Rattle.modulus.proofs.Congruences.{cong-refl, cong-path, cong-sym, cong-trans, cong-add, cong-less, cong-from-mod, mod-from-cong}
 use Rattle.modulus.proofs.Integers.{zlin}
 use Rattle.poly.specs.Reduced.{Reduced, value-at}
-use Rattle.poly.proofs.Standing.{value-same}
-
--- a list of zeros reads 0 everywhere
-pub zeros : (n k : ℕ) → getD {A = ℕ} (replicate n 0) k 0 ≡ 0
-zeros zero k = refl
-zeros (suc n) zero = refl
-zeros (suc n) (suc k) = zeros n k
+use Rattle.poly.proofs.Standing.{front-same, value-same}
 
 -- from place μ on a reduced form has no coefficient
 pub past-mu : (p e k : ℕ) (c : List ℕ) → Mu p e k → Reduced p e c → (i : ℕ) → k ≤ i → getD c i 0 ≡ 0
 past-mu p e k c mu red i le = omega (arith, red i, w-past p e k i mu le)
 
--- so its first μ coefficients are all of it
-pub front-same : (c : List ℕ) (k : ℕ) → ((i : ℕ) → k ≤ i → getD c i 0 ≡ 0) → (i : ℕ) → getD (take k c) i 0 ≡ getD c i 0
-front-same c k clear i = go (decLt i k)
-  where
-    go : Dec (i < k) → getD (take k c) i 0 ≡ getD c i 0
-    go (yes lt) = getD-take k c i 0 lt
-    go (no ge) = getD-past (take k c) i 0 (omega (arith, length-take k c)) ∙ sym (clear i (omega arith))
-
+-- so its first μ coefficients give all of its values
 pub front-value : (c : List ℕ) (k x : ℕ) → ((i : ℕ) → k ≤ i → getD c i 0 ≡ 0) → value-at (take k c) x ≡ value-at c x
 front-value c k x clear = value-same (take k c) c x (λ i _. front-same c k clear i)
 

@@ -4,6 +4,7 @@ use Prim.Native.Nat.{ℕ, zero, suc, _+_, _*_, _-_, _^_, _≤_, _<_}
 use native.Mathlib.Nat.{pow-zero, pow-suc, pow-le-pow-right, le-trans, le-refl}
 use native.Mathlib.Omega.{arith}
 use lib.Dec.{lit≤}
+use Rattle.modulus.specs.declared.listed.Modulus.{Modulus}
 use Rattle.modulus.specs.Moduli.{greatest, Listed}
 use Rattle.modulus.specs.Bounds.{v, w, Mu}
 use Rattle.modulus.proofs.Primes.{Prime, prime, by-prime}
@@ -83,3 +84,9 @@ above-one p (suc e) h =
     let P = listed-prime p (suc e) h in
     let least : p ^ 1 ≤ p ^ suc e = pow-le-pow-right (omega (arith, P .above)) (omega arith) in
     omega (arith, P .above, power-one p)
+
+-- what holds of a modulus' own numbers holds of the p and e that it was made from
+pub at-modulus : (P : ℕ → ℕ → ℕ → Type 0) (m : Modulus) (p e : ℕ) → m .prime ≡ p → m .exponent ≡ e → P (m .value) (m .prime) (m .exponent) → P (p ^ e) p e
+at-modulus P m p e hp he h =
+    subst (λ (k : ℕ). P (p ^ k) p k) he
+    (subst (λ (q : ℕ). P (q ^ m .exponent) q (m .exponent)) hp (subst (λ (n : ℕ). P n (m .prime) (m .exponent)) (m .power) h))

@@ -4,3 +4,7 @@ pub mod Values
 pub mod Falling
 pub mod Standing
 pub mod Reports
+pub mod Coefficients
+pub mod Equivalents
+pub mod Shifts
+pub mod Held

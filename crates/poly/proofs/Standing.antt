@@ -2,11 +2,12 @@
 use mathlib.Core.Path.{_≡_, refl, sym, ap, _∙_}
 use mathlib.Core.List.{List, [], _∷_, _++_}
 use Prim.Native.Nat.{ℕ, zero, suc, _+_, _*_, _%_, _≤_, _<_}
+use native.Mathlib.Decide.{decLt}
 use native.Mathlib.Nat.{le-refl}
 use native.Mathlib.Omega.{arith}
 use lib.IntN.{ℤ, pos, _+ℤ_, _*ℤ_}
-use lib.ListN.{length, getD}
-use Rattle.std.proofs.shelf.Lists.{length-push, getD-push, getD-append-left, getD-past}
+use lib.ListN.{length, getD, take, replicate}
+use Rattle.std.proofs.shelf.Lists.{length-push, length-take, getD-push, getD-take, getD-append-left, getD-past}
 use Rattle.poly.specs.Polynomial.{value, form}
 use Rattle.poly.specs.Reduced.{longer, form-length, falls, sum-to, value-at, standing}
 use Rattle.poly.proofs.Points.{newton, below-suc}
@@ -119,3 +120,17 @@ pub form-length-past : (c : List ℕ) (i : ℕ) → form-length c ≤ i → getD
 form-length-past [] i l = refl
 form-length-past (a ∷ c) zero l = longer-none a (form-length c) l
 form-length-past (a ∷ c) (suc i) l = form-length-past c i (longer-rest a (form-length c) i l)
+
+-- a list of zeros reads 0 everywhere
+pub zeros : (n k : ℕ) → getD {A = ℕ} (replicate n 0) k 0 ≡ 0
+zeros zero k = refl
+zeros (suc n) zero = refl
+zeros (suc n) (suc k) = zeros n k
+
+-- ---- the front of a list that has all that is not 0
+pub front-same : (c : List ℕ) (k : ℕ) → ((i : ℕ) → k ≤ i → getD c i 0 ≡ 0) → (i : ℕ) → getD (take k c) i 0 ≡ getD c i 0
+front-same c k clear i = go (decLt i k)
+  where
+    go : Dec (i < k) → getD (take k c) i 0 ≡ getD c i 0
+    go (yes lt) = getD-take k c i 0 lt
+    go (no ge) = getD-past (take k c) i 0 (omega (arith, length-take k c)) ∙ sym (clear i (omega arith))

@@ -9,7 +9,8 @@ use Rattle.poly.specs.Reduced.{Reported}
 use Rattle.fit.specs.Standing.{stands, report-length}
 use Rattle.fit.specs.declared.table.Fit.{Fit}
 use Rattle.fit.proofs.Offers.{reports}
-use Rattle.fit.proofs.Tables.{past-mu, front-same}
+use Rattle.poly.proofs.Standing.{front-same}
+use Rattle.fit.proofs.Tables.{past-mu}
 use Rattle.fit.proofs.table.Fit.write_report.Needs as need
 
 -- no coefficient that is not 0 lies past it

@@ -1,6 +1,6 @@
 use native.Mathlib.Omega.{arith}
 use Rattle.modulus.proofs.Bounds.{w-positive}
-use Rattle.fit.proofs.Tables.{zeros}
+use Rattle.poly.proofs.Standing.{zeros}
 use Rattle.fit.proofs.table.open.empty.Needs as need
 
 pub ghost-result : need.ghost-result

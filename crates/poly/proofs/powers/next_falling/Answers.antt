@@ -1,0 +1,17 @@
+use mathlib.Core.Path.{sym, subst}
+use mathlib.Core.List.{List}
+use Prim.Native.Nat.{ℕ, _+_, _-_, _%_, _<_}
+use native.Mathlib.Omega.{arith}
+use Rattle.poly.specs.Polynomial.{falling}
+use Rattle.poly.specs.Powers.{Holds}
+use Rattle.poly.proofs.Held.{falling-next}
+use Rattle.poly.proofs.Shifts.{cong-minus}
+use Rattle.poly.proofs.powers.next_falling.Needs as need
+
+pub returns : need.returns
+returns c =
+    let m = c .args .m in
+    let i = c .args .i in
+    let some : 0 < m = omega (arith, c .pre .above) in
+    subst (λ (xs : List ℕ). Holds m (falling (i + 1)) (i + 1 + 1) xs) (sym (c .shift-in .ensures))
+    (falling-next m i ((m - i % m) % m) (c .args .list .now) (c .pre .above) (omega (arith, c .pre .room)) (cong-minus m i some) (c .pre .holds))
