@@ -2,7 +2,7 @@
 use mathlib.Core.Path.{_≡_, sym, ap, subst, _∙_}
 use mathlib.Core.List.{List, [], _∷_, _++_}
 use Prim.Native.Nat.{ℕ, suc, _+_, _*_, _%_, _≤_, _<_}
-use native.Mathlib.Decide.{ℕ-discrete}
+use native.Mathlib.Decide.{decLe, ℕ-discrete}
 use native.Mathlib.Numerals.{add-one}
 use native.Mathlib.Omega.{arith}
 use lib.IntN.{pos}
@@ -17,7 +17,8 @@ use Rattle.poly.proofs.Standing.{length-standing, standing-same}
 use Rattle.modulus.specs.declared.refusal.Refusal.{Refusal}
 use Rattle.modulus.specs.declared.refusal.Refusal.the-variants.{TooLarge, Full, NoPolynomial}
 use Rattle.fit.specs.Rules.{No-offer, full, large, unfit, Offered}
-use Rattle.fit.specs.Standing.{power-of, stands}
+use Rattle.fit.specs.Standing.{power-of, report-length, stands}
+use Rattle.fit.proofs.Tables.{past-mu}
 use Rattle.fit.specs.declared.table.Fit.{Fit}
 
 -- g is f with the coefficient d behind the others
@@ -59,6 +60,14 @@ shrunk f cs n y count same value =
     ap (λ (k : ℕ). standing m (f .coefficients) k) count
     ∙ ap (λ (ys : List ℕ). ys ++ (value-at (f .coefficients) n % m) ∷ []) (sym (standing-same m cs (f .coefficients) n same))
     ∙ ap (λ (z : ℕ). standing m cs n ++ z ∷ []) (sym value)
+
+-- no coefficient that is not 0 lies past a report
+pub past-report : (f : Fit) (n : ℕ) → n ≡ report-length f → (i : ℕ) → n ≤ i → getD (f .coefficients) i 0 ≡ 0
+past-report f n e i le = go (decLe (f .count) i)
+  where
+    go : Dec (f .count ≤ i) → getD (f .coefficients) i 0 ≡ 0
+    go (yes past) = f .clear i past
+    go (no within) = past-mu (f .modulus .prime) (f .modulus .exponent) (f .modulus .mu) (f .coefficients) (f .modulus .least) (f .reduced) i (omega arith)
 
 -- a front of the coefficients that has all that are not 0 reports what stands
 pub reports : (f : Fit) (cs : List ℕ) → ((i : ℕ) → getD cs i 0 ≡ getD (f .coefficients) i 0) → Reported (f .modulus .prime) (f .modulus .exponent) (stands f) cs

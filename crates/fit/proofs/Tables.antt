@@ -1,13 +1,13 @@
 -- Steps of a table: what the coefficients past μ are, one value more, one value less. Assumes nothing.
-use mathlib.Core.Path.{_≡_, refl, sym, _∙_}
+use mathlib.Core.Path.{_≡_, sym, _∙_}
 use mathlib.Core.List.{List}
-use Prim.Native.Nat.{ℕ, zero, suc, _+_, _-_, _%_, _≤_, _<_}
+use Prim.Native.Nat.{ℕ, _+_, _-_, _%_, _≤_, _<_}
 use native.Mathlib.Decide.{decLt, ℕ-discrete}
 use native.Mathlib.Nat.{mod-mod}
 use native.Mathlib.Omega.{arith}
 use lib.IntN.{ℤ, pos, _+ℤ_, _-ℤ_, negℤ}
-use lib.ListN.{length, getD, set, take, replicate}
-use Rattle.std.proofs.shelf.Lists.{getD-take, getD-past, length-take, length-set, getD-set-same, getD-set-other}
+use lib.ListN.{length, getD, set, take}
+use Rattle.std.proofs.shelf.Lists.{getD-past, length-set, getD-set-same, getD-set-other}
 use Rattle.modulus.specs.Bounds.{w, Mu}
 use Rattle.modulus.specs.Congruence.{Cong}
 use Rattle.modulus.proofs.Bounds.{w-past}

@@ -4,15 +4,14 @@ ghost use Prim.Native.Nat.{ℕ, _≤_};
 ghost use lib.ListN.{getD};
 ghost use Rattle.poly.specs.Reduced.{Reduced};
 use modulus::listed::Modulus;
+use modulus::listed::PLACES;
 
 pub mod offer;
 pub mod open;
 pub mod places;
+pub mod powers;
 pub mod report;
 pub mod withdraw;
-
-// The most places that a bound above 1 can have: μ is at most 52 for every listed modulus.
-pub const PLACES: usize = 52;
 
 // A fit: a modulus and a table of standing values, kept as the coefficients of its reduced Newton form.
 // No value is stored: the one in place i is the form's value at i. From place μ on every coefficient is 0.

@@ -20,6 +20,7 @@ use Rattle.poly.specs.Polynomial.{Fits}
 use Rattle.poly.specs.Reduced.{Reduced, Reported, standing}
 use Rattle.poly.proofs.Reports.{reported, no-fit, fits-standing}
 use Rattle.fit.specs.Rules.{unfit, Offered}
+use Rattle.poly.proofs.Equivalents.{null-example}
 use Rattle.marked.specs.Marked.{Marked}
 
 -- ---- what a computed test shows
@@ -112,4 +113,5 @@ marked =
       accepts = (more-squares, (more-pairs, tt));
       refuses = (unfit (lit< tt) (lit< tt) no-squares, (unfit (lit< tt) (lit< tt) no-pairs, tt));
       counted = ((mu, refl), tt);
+      vanish = (null-example, tt);
     }

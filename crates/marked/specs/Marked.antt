@@ -5,6 +5,7 @@ use Prim.Native.Nat.{ℕ, _+_, _^_}
 use lib.ListN.{length}
 use Rattle.modulus.specs.Bounds.{Mu, open-digits}
 use Rattle.modulus.specs.declared.refusal.Refusal.the-variants.{NoPolynomial}
+use Rattle.poly.specs.Equivalents.{Null, ints}
 use Rattle.poly.specs.Reduced.{Reported}
 use Rattle.fit.specs.Rules.{No-offer, Offered}
 
@@ -55,6 +56,14 @@ refused =
 abbrev pub counts : List Counted
 counts = record { prime = 2; exponent = 8; mu = 10; digits = 50 } ∷ []
 
+-- coefficients in powers of X of a polynomial that is null modulo the modulus
+pub record Vanishing : Type 0 where
+  pub modulus : ℕ
+  pub coefficients : List ℕ
+
+abbrev pub nulls : List Vanishing
+nulls = record { modulus = 4; coefficients = 0 ∷ 2 ∷ 2 ∷ [] } ∷ []
+
 -- each of a list has the property
 abbrev pub Each : {A : Type 0} → (A → Type 0) → List A → Type 0
 Each P [] = Unit {0}
@@ -66,7 +75,8 @@ pub record Marked : Type 0 where
   pub accepts : Each (λ (t : Next). Offered (t .prime) (t .exponent) (t .values) (t .offered) (t .place) (t .coefficient)) accepted
   pub refuses : Each (λ (t : Next). No-offer (t .prime ^ t .exponent) (t .values) (t .offered) (NoPolynomial (t .place))) refused
   pub counted : Each (λ (t : Counted). Mu (t .prime) (t .exponent) (t .mu) × (open-digits (t .prime) (t .exponent) (t .mu) ≡ t .digits)) counts
+  pub vanish : Each (λ (t : Vanishing). Null (t .modulus) (ints (t .coefficients))) nulls
 
 -- how many lines it has
 abbrev pub how-many : ℕ
-how-many = length reports + length accepted + length refused + length counts
+how-many = length reports + length accepted + length refused + length counts + length nulls

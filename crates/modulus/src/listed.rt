@@ -7,6 +7,9 @@ ghost use Rattle.modulus.specs.Moduli.{Listed, greatest};
 use crate::refusal::Refusal;
 use crate::units::split;
 
+// The most places that a bound above 1 can have: μ is at most 52 for every listed modulus, and 52 for 13 ^ 4.
+pub const PLACES: usize = 52;
+
 // The modulus p ^ e for a listed prime p and exponent e, with its number of open places μ.
 #[derive(Clone, Copy)]
 pub struct Modulus {

@@ -9,14 +9,9 @@ use lib.ListN.{length, getD}
 use Rattle.modulus.specs.Congruence.{Cong}
 use Rattle.modulus.proofs.Integers.{zring, zlin}
 use Rattle.modulus.proofs.Congruences.{cong-refl, cong-path, cong-sym, cong-trans, cong-add, cong-mul, cong-neg, cong-lower}
+use Rattle.poly.specs.Basis.{to-newton}
 use Rattle.poly.specs.Polynomial.{value}
 use Rattle.poly.proofs.Points.{basis, newton, Laws, newton-past, everywhere, unique}
-
--- the coefficients in the Newton basis of a polynomial that is given by its coefficients in powers of X
-abbrev pub to-newton : (ℕ → ℤ) → List ℤ → ℕ → ℤ
-to-newton pt [] i = pos 0
-to-newton pt (a ∷ f) zero = a +ℤ pt 0 *ℤ to-newton pt f 0
-to-newton pt (a ∷ f) (suc i) = to-newton pt f i +ℤ pt (suc i) *ℤ to-newton pt f (suc i)
 
 zeros-ring : (x : ℤ) → pos 0 +ℤ x *ℤ pos 0 ≡ pos 0
 zeros-ring x = simp zring

@@ -12,8 +12,8 @@ use Rattle.modulus.proofs.Congruences.{cong-refl, cong-path, cong-trans, cong-a
 use Rattle.poly.specs.Polynomial.{value, plus, scaled, times-less, falling, form-from, form}
 use Rattle.poly.specs.Equivalents.{Alike, Same-polynomial}
 use Rattle.poly.proofs.Points.{below-suc}
-use Rattle.poly.proofs.Basis.{to-newton, to-newton-past}
-use Rattle.poly.proofs.Falling.{ordinary}
+use Rattle.poly.specs.Basis.{ordinary, to-newton}
+use Rattle.poly.proofs.Basis.{to-newton-past}
 
 -- ---- sums, multiples and falling factorials
 pub getD-plus : (f g : List ℤ) (k : ℕ) → getD (plus f g) k (pos 0) ≡ getD f k (pos 0) +ℤ getD g k (pos 0)

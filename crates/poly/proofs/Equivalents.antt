@@ -1,26 +1,28 @@
 -- The reduced form of a polynomial, what tells two polynomials apart, and what spans the null ones. Assumes nothing.
 use mathlib.Core.Path.{_≡_, refl, sym, ap, subst, _∙_}
 use mathlib.Core.List.{List, [], _∷_}
-use Prim.Native.Nat.{ℕ, zero, suc, _+_, _*_, _^_, _≤_, _<_}
+use Prim.Native.Nat.{ℕ, zero, suc, _+_, _*_, _%_, _^_, _≤_, _<_}
 use native.Mathlib.Decide.{decLt}
+use native.Mathlib.Nat.{mod-lt}
 use native.Mathlib.Omega.{arith}
 use lib.IntN.{ℤ, pos, negsuc, _+ℤ_, _*ℤ_}
-use lib.ListN.{length, getD}
+use lib.ListN.{length, getD, take}
 use Rattle.std.proofs.shelf.Lists.{getD-past}
 use Rattle.modulus.specs.Congruence.{Cong}
 use Rattle.modulus.specs.Moduli.{Listed}
-use Rattle.modulus.specs.Bounds.{w, Mu}
+use Rattle.modulus.specs.Bounds.{v, w, Mu}
 use Rattle.modulus.proofs.Integers.{zring, zlin}
-use Rattle.modulus.proofs.Congruences.{cong-refl, cong-path, cong-sym, cong-trans, cong-add, cong-mul, cong-one}
-use Rattle.modulus.proofs.Bounds.{w-past}
+use Rattle.modulus.proofs.Congruences.{cong-refl, cong-path, cong-sym, cong-trans, cong-add, cong-mul, cong-one, cong-mod, cong-lower}
+use Rattle.modulus.proofs.Bounds.{w-past, w-positive}
 use Rattle.poly.specs.Polynomial.{value, scaled, falling, form}
 use Rattle.poly.specs.Reduced.{Reduced, Same-form}
 use Rattle.poly.specs.Equivalents.{Alike, Null, Same-polynomial, Reduces, null-at, combination, difference, Span, Told-apart}
 use Rattle.poly.proofs.Points.{everywhere, unique, vanish}
-use Rattle.poly.proofs.Basis.{to-newton, to-newton-value}
+use Rattle.poly.specs.Basis.{ordinary, to-newton}
+use Rattle.poly.proofs.Basis.{to-newton-value}
 use Rattle.poly.proofs.Values.{value-plus, value-scaled, value-falling, value-form}
-use Rattle.poly.proofs.Falling.{ordinary, ordinary-laws}
-use Rattle.poly.proofs.Standing.{value-is, value-same}
+use Rattle.poly.proofs.Falling.{ordinary-laws}
+use Rattle.poly.proofs.Standing.{value-is, value-same, front-same}
 use Rattle.poly.proofs.Reports.{coefficients, same-from-values}
 use Rattle.poly.proofs.Coefficients.{getD-plus, getD-scaled, sum-of, getD-sum-suc, to-newton-polynomial, same-alike}
 
@@ -171,3 +173,30 @@ triangle (suc x) = let t = triangle x in (t .0 + suc x, omega (arith, t .1))
 
 pub null-example : Null 4 (pos 0 ∷ pos 2 ∷ pos 2 ∷ [])
 null-example x = record { times = pos (triangle x .0); is = ap (λ (n : ℕ). pos (0 + n)) (triangle x .1) }
+
+-- ---- remainders by the bounds of a Newton form that is not reduced yet
+pub reduces-remainders : (p e m u : ℕ) → Listed p e → m ≡ p ^ e → Mu p e u → (f : List ℤ) (ks c : List ℕ) → ((k : ℕ) → Cong m (pos (getD ks k 0)) (to-newton ordinary f k))
+    → ((k : ℕ) → k < u → getD c k 0 ≡ getD ks k 0 % w p e k) → ((k : ℕ) → u ≤ k → getD c k 0 ≡ 0) → Reduces p e f c
+reduces-remainders p e m u listed is mu f ks c held low past =
+    reduces p e listed f c u mu small
+    (λ i lt. cong-trans (cong-path (w p e i) (ap pos (low i lt)))
+    (cong-trans (cong-sym (cong-mod (w p e i) (getD ks i 0))) (cong-lower p e (v p i) (subst (λ (n : ℕ). Cong n (pos (getD ks i 0)) (to-newton ordinary f i)) is (held i)))))
+  where
+    small : (i : ℕ) → getD c i 0 < w p e i
+    small i = go (decLt i u)
+      where
+        go : Dec (i < u) → getD c i 0 < w p e i
+        go (yes lt) = rw (low i lt) (mod-lt (getD ks i 0) (w-positive p e i listed))
+        go (no ge) = rw (past i (omega arith)) (w-positive p e i listed)
+
+-- a form that is the same in every place serves as well
+pub reduces-same : (p e : ℕ) (f : List ℤ) (c d : List ℕ) → Reduces p e f c → Same-form d c → Reduces p e f d
+reduces-same p e f c d h same =
+    record {
+      reduced = λ i. rw (same i) (h .reduced i);
+      alike = λ x. cong-trans (same-form-alike (p ^ e) d c same x) (h .alike x);
+      only = λ b reduced alike i. h .only b reduced alike i ∙ sym (same i);
+    }
+
+pub reduces-front : (p e : ℕ) (f : List ℤ) (c : List ℕ) (n : ℕ) → Reduces p e f c → ((k : ℕ) → n ≤ k → getD c k 0 ≡ 0) → Reduces p e f (take n c)
+reduces-front p e f c n h clear = reduces-same p e f c (take n c) h (front-same c n clear)

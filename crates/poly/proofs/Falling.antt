@@ -14,11 +14,8 @@ use Rattle.modulus.proofs.Primes.{Prime, Inverse, inverse-lift}
 use Rattle.modulus.proofs.Exponents.{Parts, factorial-parts}
 use Rattle.modulus.proofs.Bounds.{listed-prime}
 use Rattle.poly.specs.Reduced.{falls}
+use Rattle.poly.specs.Basis.{ordinary}
 use Rattle.poly.proofs.Points.{basis, Laws, basis-past}
-
--- the points 0, 1, 2, …
-abbrev pub ordinary : ℕ → ℤ
-ordinary k = pos k
 
 -- the binomial coefficient
 abbrev pub choose : ℕ → ℕ → ℕ

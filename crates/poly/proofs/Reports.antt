@@ -20,7 +20,8 @@ use Rattle.poly.specs.Polynomial.{Takes, Fits, Degree-below, form}
 use Rattle.poly.specs.Reduced.{Reduced, Same-form, form-length, Reported, falls, value-at, standing}
 use Rattle.poly.proofs.Points.{newton, Laws, unique}
 use Rattle.poly.proofs.Basis.{exact, least}
-use Rattle.poly.proofs.Falling.{ordinary, falls-self, basis-falls, ordinary-laws}
+use Rattle.poly.specs.Basis.{ordinary}
+use Rattle.poly.proofs.Falling.{falls-self, basis-falls, ordinary-laws}
 use Rattle.poly.proofs.Standing.{newton-is, value-is, sum-to-same, value-at-stop, value-at-past, length-standing, standing-at, standing-same, form-length-le, form-length-past}
 
 -- ---- what a form takes

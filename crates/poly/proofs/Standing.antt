@@ -12,7 +12,8 @@ use Rattle.poly.specs.Polynomial.{value, form}
 use Rattle.poly.specs.Reduced.{longer, form-length, falls, sum-to, value-at, standing}
 use Rattle.poly.proofs.Points.{newton, below-suc}
 use Rattle.poly.proofs.Values.{value-form}
-use Rattle.poly.proofs.Falling.{ordinary, falls-past, basis-falls}
+use Rattle.poly.specs.Basis.{ordinary}
+use Rattle.poly.proofs.Falling.{falls-past, basis-falls}
 
 -- ---- the value of a form
 pub newton-is : (c : List ℕ) (k x : ℕ) → newton ordinary (λ (i : ℕ). pos (getD c i 0)) k (pos x) ≡ pos (sum-to c x k)

@@ -1,5 +1,5 @@
 -- Polynomials that are one function modulo m, null polynomials and what spans them. Rests on polynomials and reduced forms.
-use mathlib.Core.List.{List, [], _∷_, map}
+use mathlib.Core.List.{List, [], map}
 use Prim.Native.Nat.{ℕ, zero, suc, _^_, _≤_}
 use lib.IntN.{ℤ, pos, negsuc}
 use lib.ListN.{length, getD}

@@ -1,4 +1,5 @@
 pub mod Polynomial
+pub mod Basis
 pub mod Reduced
 pub mod Equivalents
 pub mod Shift

@@ -26,7 +26,12 @@ fn write_null(modulus: &Modulus, i: usize, out: &mut [u16])
     let m = modulus.value();
     let falling = falling_powers(m, i as u32);
     let mut scaled = [0; ROOM];
-    add_scaled(&mut scaled, m, &falling, (modulus.bound(i as u32) % m) as u16);
+    add_scaled(
+        &mut scaled,
+        m,
+        &falling,
+        (modulus.bound(i as u32) % m) as u16,
+    );
     copy_front(out, &scaled, i + 1);
 }
 

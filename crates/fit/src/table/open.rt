@@ -5,8 +5,8 @@ ghost use Rattle.std.specs.Results.{Cases};
 ghost use Rattle.fit.specs.Standing.{stands};
 ghost use Rattle.modulus.specs.Moduli.{Listed};
 use crate::table::Fit;
-use crate::table::PLACES;
 use modulus::listed::Modulus;
+use modulus::listed::PLACES;
 use modulus::refusal::Refusal;
 
 // An empty fit.

@@ -10,7 +10,7 @@ use modulus::refusal::Refusal;
 
 impl Fit {
     // How many coefficients a report has.
-    fn needed(&self) -> usize
+    pub(crate) fn needed(&self) -> usize
         ensures { λ r. ⌜ r ≡ report-length (now (self .entry)) ⌝ }
     {
         self.count.min(self.modulus.mu()) as usize

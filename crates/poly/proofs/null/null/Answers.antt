@@ -1,11 +1,11 @@
-use mathlib.Core.Path.{_≡_, refl, sym, subst}
+use mathlib.Core.Path.{refl, sym, subst}
 use Prim.Native.Nat.{ℕ, _+_, _^_}
 use native.Mathlib.Omega.{arith}
 use lib.ListN.{length, take}
 use Rattle.std.proofs.shelf.Results.{err-from-errBy}
 use Rattle.modulus.specs.declared.refusal.Refusal.{Refusal}
 use Rattle.modulus.proofs.Bounds.{at-modulus}
-use Rattle.poly.specs.Equivalents.{ints, null-at}
+use Rattle.poly.specs.Equivalents.{null-at}
 use Rattle.poly.specs.Powers.{Holds, No-null}
 use Rattle.poly.proofs.Equivalents.{null-at-null, span}
 use Rattle.poly.proofs.Held.{held-null}

@@ -1,7 +1,5 @@
-use mathlib.Core.Path.{_≡_, sym, ap, _∙_}
-use mathlib.Core.List.{List}
-use mathlib.Core.Logic.{_≢_}
-use Prim.Native.Nat.{ℕ, _+_, _*_, _%_, _<_, _≤_}
+use mathlib.Core.Path.{_≡_, ap, _∙_}
+use Prim.Native.Nat.{ℕ, _+_, _*_, _%_, _<_}
 use native.Mathlib.Omega.{arith}
 use lib.ListN.{length, getD, set}
 use borrow.Author.Count.{below-more}
@@ -17,9 +15,9 @@ loop-k-again c =
     let P : ℕ → Type 0 = λ j. getD (set l k v) j 0 ≡ (getD (c .args .sum .now) j 0 + c .args .c * getD (c .args .list .now) j 0) % c .args .m in
     let here : c .from .result ≡ getD (c .args .sum .now) k 0 = c .from .ensures ∙ c .loop-k .inv .1 k (omega arith) in
     let value : v ≡ (getD (c .args .sum .now) k 0 + c .args .c * getD (c .args .list .now) k 0) % c .args .m =
-        ap (λ (a : ℕ). (a + c .from-in-loop-k .result * c .from-in-loop-k-2 .result) % c .args .m) here
-        ∙ ap (λ (a : ℕ). (getD (c .args .sum .now) k 0 + a * c .from-in-loop-k-2 .result) % c .args .m) (c .from-in-loop-k .ensures)
-        ∙ ap (λ (a : ℕ). (getD (c .args .sum .now) k 0 + c .args .c * a) % c .args .m) (c .from-in-loop-k-2 .ensures) in
+    ap (λ (a : ℕ). (a + c .from-in-loop-k .result * c .from-in-loop-k-2 .result) % c .args .m) here
+    ∙ ap (λ (a : ℕ). (getD (c .args .sum .now) k 0 + a * c .from-in-loop-k-2 .result) % c .args .m) (c .from-in-loop-k .ensures)
+    ∙ ap (λ (a : ℕ). (getD (c .args .sum .now) k 0 + c .args .c * a) % c .args .m) (c .from-in-loop-k-2 .ensures) in
     (below-more P k (λ j h. getD-set-other l k j v 0 (omega arith) ∙ c .loop-k .inv .0 j h) (getD-set-same l k v 0 lt ∙ value), λ j h. getD-set-other l k j v 0 (omega arith) ∙ c .loop-k .inv .1 j (omega arith))
 
 pub returns : need.returns

@@ -1,7 +1,7 @@
 use mathlib.Core.Path.{sym, subst}
 use mathlib.Core.List.{List}
 use Prim.Native.Nat.{ℕ}
-use lib.ListN.{length, take}
+use lib.ListN.{length}
 use Rattle.poly.specs.Polynomial.{form}
 use Rattle.poly.specs.Powers.{Holds}
 use Rattle.poly.proofs.Held.{held-front}

@@ -8,18 +8,10 @@ use Rattle.std.proofs.shelf.Lists.{take-at, drop-at, length-take-le}
 use Rattle.poly.specs.Reduced.{Reported}
 use Rattle.fit.specs.Standing.{stands, report-length}
 use Rattle.fit.specs.declared.table.Fit.{Fit}
-use Rattle.fit.proofs.Offers.{reports}
+use Rattle.fit.proofs.Offers.{past-report, reports}
 use Rattle.poly.proofs.Standing.{front-same}
 use Rattle.fit.proofs.Tables.{past-mu}
 use Rattle.fit.proofs.table.Fit.write_report.Needs as need
-
--- no coefficient that is not 0 lies past it
-clear : (f : Fit) (n : ℕ) → n ≡ report-length f → (i : ℕ) → n ≤ i → getD (f .coefficients) i 0 ≡ 0
-clear f n e i le = go (decLe (f .count) i)
-  where
-    go : Dec (f .count ≤ i) → getD (f .coefficients) i 0 ≡ 0
-    go (yes past) = f .clear i past
-    go (no within) = past-mu (f .modulus .prime) (f .modulus .exponent) (f .modulus .mu) (f .coefficients) (f .modulus .least) (f .reduced) i (omega arith)
 
 pub returns : need.returns
 returns c =
@@ -29,5 +21,5 @@ returns c =
     let exact : n - 0 ≡ n = omega arith in
     let copied : front ≡ take n (f .coefficients) = c .copy-from-slice .ensures .after ∙ ap (λ (k : ℕ). take k (f .coefficients)) exact in
     let len : length front ≡ n = c .copy-from-slice .ensures .len ∙ ap (λ (k : ℕ). length (take k (c .args .out .now))) exact ∙ length-take-le n (c .args .out .now) (c .pre .room) in
-    let same : (i : ℕ) → getD front i 0 ≡ getD (f .coefficients) i 0 = λ i. ap (λ (xs : List ℕ). getD xs i 0) copied ∙ front-same (f .coefficients) n (clear f n (c .pre .all)) i in
+    let same : (i : ℕ) → getD front i 0 ≡ getD (f .coefficients) i 0 = λ i. ap (λ (xs : List ℕ). getD xs i 0) copied ∙ front-same (f .coefficients) n (past-report f n (c .pre .all)) i in
     record { written = subst (λ (xs : List ℕ). Reported (f .modulus .prime) (f .modulus .exponent) (stands f) xs) (sym (take-at front _ n len)) (reports f front same); beyond = drop-at front _ n len ∙ ap (λ (k : ℕ). drop k (c .args .out .now)) exact }
