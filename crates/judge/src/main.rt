@@ -7,6 +7,10 @@ use fit::table::Fit;
 use modulus::count::count;
 use modulus::listed::PLACES;
 use modulus::refusal::Refusal;
+use poly::alike::alike;
+use poly::null::null;
+use poly::reduce::reduce;
+use poly::shift::COEFFICIENTS;
 use std::alloc::AllocError;
 use std::alloc::Global;
 use std::error::AnyError;
@@ -64,15 +68,33 @@ fn print_uses(
     Ok(())
 }
 
-// How many values stand, and the report.
+// Ends a line with the front of a buffer, or with the refusal.
+fn print_front(
+    rt: &LibcRuntime,
+    buffer: &[u16],
+    answer: Result<usize, Refusal>,
+) -> Result<(), AnyError> {
+    match answer {
+        Ok(length) => {
+            if length <= buffer.len() {
+                print_list(rt, &buffer[0..length])?;
+            }
+        }
+        Err(refusal) => print_refusal(rt, refusal)?,
+    }
+    Ok(())
+}
+
+// How many values stand, the report, and the same polynomial in powers of X.
 fn print_report(rt: &LibcRuntime, fit: &Fit) -> Result<(), AnyError> {
     let mut buffer = [0; PLACES];
     let standing = fit.count();
     print!(rt, "  standing {standing}, report ")?;
-    match fit.report(&mut buffer) {
-        Ok(length) => print_list(rt, &buffer[0..length]),
-        Err(_) => Err("the report is longer than its buffer".into()),
-    }
+    let reported = fit.report(&mut buffer);
+    print_front(rt, &buffer, reported)?;
+    print!(rt, "  powers ")?;
+    let written = fit.powers(&mut buffer);
+    print_front(rt, &buffer, written)
 }
 
 // Says why a list of uses was not begun.
@@ -186,6 +208,70 @@ fn withdrawals(rt: &LibcRuntime) -> Result<(), AnyError> {
     judge(rt, 5, 2, &uses)
 }
 
+// Prints a list of coefficients as it was given.
+fn print_given(rt: &LibcRuntime, list: &[u32]) -> Result<(), AnyError> {
+    for (i, c) in list.iter().enumerate() {
+        if i > 0 {
+            print!(rt, ",")?;
+        }
+        print!(rt, "{c}")?;
+    }
+    Ok(())
+}
+
+// A line with the reduced form of a list of coefficients in powers of X.
+fn print_reduced(rt: &LibcRuntime, p: u32, e: u32, list: &[u32]) -> Result<(), AnyError> {
+    let mut buffer = [0; PLACES];
+    print!(rt, "  reduced ")?;
+    let written = reduce(p, e, list, &mut buffer);
+    print_front(rt, &buffer, written)
+}
+
+// Whether two lists of coefficients in powers of X are one function, and the reduced form of each.
+fn compare(
+    rt: &LibcRuntime,
+    p: u32,
+    e: u32,
+    first: &[u32],
+    second: &[u32],
+) -> Result<(), AnyError> {
+    print!(rt, "modulo {p}^{e}, ")?;
+    print_given(rt, first)?;
+    print!(rt, " and ")?;
+    print_given(rt, second)?;
+    match alike(p, e, first, second) {
+        Ok(true) => println!(rt, ": alike")?,
+        Ok(false) => println!(rt, ": not alike")?,
+        Err(refusal) => {
+            print!(rt, ": ")?;
+            print_refusal(rt, refusal)?;
+        }
+    }
+    print_reduced(rt, p, e, first)?;
+    print_reduced(rt, p, e, second)
+}
+
+// The null polynomials of the first places, in powers of X.
+fn print_nulls(rt: &LibcRuntime, p: u32, e: u32, places: usize) -> Result<(), AnyError> {
+    println!(rt, "modulo {p}^{e}, null polynomials")?;
+    for i in 1..=places {
+        let mut buffer = [0; COEFFICIENTS];
+        print!(rt, "  place {i}: ")?;
+        let written = null(p, e, i, &mut buffer);
+        print_front(rt, &buffer, written)?;
+    }
+    Ok(())
+}
+
+fn equivalents(rt: &LibcRuntime) -> Result<(), AnyError> {
+    compare(rt, 2, 2, &[0, 1], &[0, 3, 2])?;
+    compare(rt, 2, 3, &[0, 0, 1], &[0, 4, 5])?;
+    compare(rt, 3, 2, &[0, 1], &[0, 0, 0, 1])?;
+    compare(rt, 3, 2, &[0, 1], &[0, 9])?;
+    print_nulls(rt, 2, 3, 4)?;
+    print_nulls(rt, 3, 2, 6)
+}
+
 fn run(rt: &LibcRuntime) -> Result<(), AnyError> {
     println!(rt, "Tables, offered value by value")?;
     tables(rt)?;
@@ -195,6 +281,8 @@ fn run(rt: &LibcRuntime) -> Result<(), AnyError> {
     judge_table(rt, 2, 17, &[0, 1])?;
     println!(rt, "A full fit")?;
     judge_full(rt)?;
+    println!(rt, "Polynomials in powers of X that may be one function")?;
+    equivalents(rt)?;
     println!(rt, "Counts")?;
     print_count(rt, 2, 8)?;
     println!(

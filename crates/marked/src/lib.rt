@@ -114,7 +114,11 @@ mod tests {
     fn value(list: &[u32], x: u64, m: u64) -> u64 {
         let mut value = 0u64;
         for c in list.iter().rev() {
-            value = value.wrapping_mul(x).wrapping_add(u64::from(*c)).checked_rem(m).unwrap_or(0);
+            value = value
+                .wrapping_mul(x)
+                .wrapping_add(u64::from(*c))
+                .checked_rem(m)
+                .unwrap_or(0);
         }
         value
     }
@@ -132,7 +136,10 @@ mod tests {
         for x in 0..modulus.value() {
             if x < 65536 {
                 let form = evaluate(&modulus, &reduced[0..length], x as u16);
-                check_eq(u64::from(form), value(list, u64::from(x), u64::from(modulus.value())))?;
+                check_eq(
+                    u64::from(form),
+                    value(list, u64::from(x), u64::from(modulus.value())),
+                )?;
             }
         }
         Ok(())
@@ -141,10 +148,84 @@ mod tests {
     #[test]
     fn reduced_forms_have_the_same_values() -> Result<(), Fail> {
         let full = [
-            1, 0, 3, 2, 1, 1, 0, 2, 3, 3, 1, 2, 0, 0, 1, 3, 2, 2, 1, 0, 3, 1, 1, 2, 0, 3, 3, 0, 1, 2, 2, 1,
-            0, 1, 3, 2, 1, 3, 0, 2, 2, 3, 1, 1, 0, 0, 3, 3, 2, 1, 2, 0, 1, 0, 3, 1, 2, 2, 3, 1, 0, 1, 1, 3,
+            1,
+            0,
+            3,
+            2,
+            1,
+            1,
+            0,
+            2,
+            3,
+            3,
+            1,
+            2,
+            0,
+            0,
+            1,
+            3,
+            2,
+            2,
+            1,
+            0,
+            3,
+            1,
+            1,
+            2,
+            0,
+            3,
+            3,
+            0,
+            1,
+            2,
+            2,
+            1,
+            0,
+            1,
+            3,
+            2,
+            1,
+            3,
+            0,
+            2,
+            2,
+            3,
+            1,
+            1,
+            0,
+            0,
+            3,
+            3,
+            2,
+            1,
+            2,
+            0,
+            1,
+            0,
+            3,
+            1,
+            2,
+            2,
+            3,
+            1,
+            0,
+            1,
+            1,
+            3,
         ];
-        for (p, e) in [(2, 2), (2, 3), (2, 5), (3, 2), (3, 3), (5, 1), (5, 2), (7, 2), (11, 1), (13, 2), (17, 1)] {
+        for (p, e) in [
+            (2, 2),
+            (2, 3),
+            (2, 5),
+            (3, 2),
+            (3, 3),
+            (5, 1),
+            (5, 2),
+            (7, 2),
+            (11, 1),
+            (13, 2),
+            (17, 1),
+        ] {
             reduces(p, e, &full)?;
             reduces(p, e, &full[0..3])?;
             reduces(p, e, &full[7..20])?;

@@ -32,6 +32,7 @@ fn same_form(modulus: &Modulus, first: &[u32], second: &[u32]) -> bool
     requires second { ⌜ Taken (now modulus .value) (now second) ⌝ }
     ensures yes { λ r. ⌜ (r ≡ true → Alike (now (modulus .entry) .prime ^ now (modulus .entry) .exponent) (ints (now (first .entry))) (ints (now (second .entry)))) ⌝ }
     ensures no { λ r. ⌜ (Alike (now (modulus .entry) .prime ^ now (modulus .entry) .exponent) (ints (now (first .entry))) (ints (now (second .entry))) → r ≡ true) ⌝ }
+    ensures told { λ _. ⌜ Told-apart ⌝ }
 {
     let a = reduced_form(modulus, first);
     let b = reduced_form(modulus, second);
@@ -41,8 +42,7 @@ fn same_form(modulus: &Modulus, first: &[u32], second: &[u32]) -> bool
 // Whether the polynomials with these coefficients in powers of X have the same value modulo p ^ e at every whole number.
 // Refuses a modulus off the list, then a list of more than 64 and the first coefficient that is not below the modulus, of the first list and then of the second.
 pub fn alike(p: u32, e: u32, first: &[u32], second: &[u32]) -> Result<bool, Refusal>
-    ensures cases { λ r. ⌜ Cases r (λ b. Listed p e × Taken (p ^ e) (now (first .entry)) × Taken (p ^ e) (now (second .entry)) × (b ≡ true → Alike (p ^ e) (ints (now (first .entry))) (ints (now (second .entry)))) × (Alike (p ^ e) (ints (now (first .entry))) (ints (now (second .entry))) → b ≡ true)) (λ f. No-comparison p e (now (first .entry)) (now (second .entry)) f) ⌝ }
-    ensures told_apart { λ _. ⌜ Told-apart ⌝ }
+    ensures { λ r. ⌜ Cases r (λ b. Listed p e × Taken (p ^ e) (now (first .entry)) × Taken (p ^ e) (now (second .entry)) × (b ≡ true → Alike (p ^ e) (ints (now (first .entry))) (ints (now (second .entry)))) × (Alike (p ^ e) (ints (now (first .entry))) (ints (now (second .entry))) → b ≡ true) × Told-apart) (λ f. No-comparison p e (now (first .entry)) (now (second .entry)) f) ⌝ }
 {
     let modulus = Modulus::new(p, e)?;
     check_list(&modulus, first)?;

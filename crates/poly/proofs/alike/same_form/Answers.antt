@@ -26,4 +26,4 @@ returns c =
     let b = c .reduced-form-b .result in
     let len : length b ≡ length a = search needs in
     let told = told-apart (m .prime) (m .exponent) (m .listed) (ints (c .args .first .now)) (ints (c .args .second .now)) a b (c .reduced-form-a .ensures .form) (c .reduced-form-b .ensures .form) in
-    record { yes = λ t. told .1 .1 (everywhere a b len (c .equal .ensures .yes t)); no = λ h. c .equal .ensures .no (told .1 .0 h) }
+    record { yes = λ t. told .1 .1 (everywhere a b len (c .equal .ensures .yes t)); no = λ h. c .equal .ensures .no (told .1 .0 h); told = told-apart }

@@ -1,16 +1,13 @@
 use mathlib.Core.Path.{_≡_, sym, ap, subst, _∙_}
 use mathlib.Core.List.{List}
-use Prim.Native.Nat.{ℕ, _-_, _≤_}
-use native.Mathlib.Decide.{decLe}
+use Prim.Native.Nat.{ℕ, _-_}
 use native.Mathlib.Omega.{arith}
 use lib.ListN.{length, getD, take, drop}
 use Rattle.std.proofs.shelf.Lists.{take-at, drop-at, length-take-le}
 use Rattle.poly.specs.Reduced.{Reported}
-use Rattle.fit.specs.Standing.{stands, report-length}
-use Rattle.fit.specs.declared.table.Fit.{Fit}
+use Rattle.fit.specs.Standing.{stands}
 use Rattle.fit.proofs.Offers.{past-report, reports}
 use Rattle.poly.proofs.Standing.{front-same}
-use Rattle.fit.proofs.Tables.{past-mu}
 use Rattle.fit.proofs.table.Fit.write_report.Needs as need
 
 pub returns : need.returns
