@@ -6,9 +6,10 @@ use native.Mathlib.Numerals.{add-one}
 use native.Mathlib.Omega.{arith}
 use lib.IntN.{pos}
 use lib.ListN.{getD, length}
-use Rattle.modulus.proofs.Congruences.{cong-refl, cong-sym, cong-add, cong-mul, cong-mod, mod-from-cong}
+use Rattle.modulus.proofs.Congruences.{cong-refl, cong-sym, cong-add, cong-mul, cong-mod, cong-path, cong-trans, mod-from-cong}
 use Rattle.modulus.proofs.Division.{product-small, mul-mod-left}
-use Rattle.poly.specs.Reduced.{falls, sum-to}
+use Rattle.poly.proofs.Standing.{value-is}
+use Rattle.poly.specs.Reduced.{falls, sum-to, value-at}
 use Rattle.poly.proofs.newton.sum_of_terms.Needs as need
 
 pub loop-c-holds : need.loop-c-holds
@@ -43,5 +44,9 @@ loop-c-again c =
 
 pub returns : need.returns
 returns c =
-    let all : c .loop-c .c-index ≡ length (c .args .coefficients .now) = omega arith in
-    c .loop-c .inv .0 ∙ ap (λ (n : ℕ). sum-to (c .args .coefficients .now) (c .args .x) n % c .args .m) all
+    let cs = c .args .coefficients .now in
+    let x = c .args .x in
+    let m = c .args .m in
+    let all : c .loop-c .c-index ≡ length cs = omega arith in
+    let is : c .loop-c .sum ≡ value-at cs x % m = c .loop-c .inv .0 ∙ ap (λ (n : ℕ). sum-to cs x n % m) all in
+    record { is = is; polynomial = cong-trans (cong-path m (ap pos is)) (cong-trans (cong-sym (cong-mod m (value-at cs x))) (cong-path m (sym (value-is cs x)))) }

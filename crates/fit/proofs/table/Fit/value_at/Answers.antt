@@ -12,4 +12,4 @@ returns c =
     let m = f .modulus in
     let clear : (i : ℕ) → c .mu-mu .result - 0 ≤ i → getD (f .coefficients) i 0 ≡ 0 =
     λ i le. past-mu (m .prime) (m .exponent) (c .mu-mu .result) (f .coefficients) (c .mu-mu .ensures .least) (f .reduced) i (omega arith) in
-    c .evaluate .ensures ∙ ap (λ (n : ℕ). n % m .value) (front-value (f .coefficients) (c .mu-mu .result - 0) (c .args .x) clear) ∙ ap (λ (n : ℕ). value-at (f .coefficients) (c .args .x) % n) (m .power)
+    c .evaluate .ensures .is ∙ ap (λ (n : ℕ). n % m .value) (front-value (f .coefficients) (c .mu-mu .result - 0) (c .args .x) clear) ∙ ap (λ (n : ℕ). value-at (f .coefficients) (c .args .x) % n) (m .power)
