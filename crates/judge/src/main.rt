@@ -5,8 +5,14 @@ use desk::uses::Answer;
 use desk::uses::Use;
 use fit::table::Fit;
 use modulus::count::count;
+use modulus::listed::Modulus;
 use modulus::listed::PLACES;
 use modulus::refusal::Refusal;
+use plan::check::first_bad;
+use plan::check::trays;
+use plan::cost::cost;
+use plan::step::Op;
+use plan::step::Step;
 use poly::alike::alike;
 use poly::null::null;
 use poly::reduce::reduce;
@@ -272,6 +278,83 @@ fn equivalents(rt: &LibcRuntime) -> Result<(), AnyError> {
     print_nulls(rt, 3, 2, 6)
 }
 
+// A line for one step.
+fn print_step(rt: &LibcRuntime, i: usize, s: Step) -> Result<(), AnyError> {
+    let to = s.to;
+    let a = s.a;
+    let b = s.b;
+    let k = s.k;
+    match s.op {
+        Op::Add => println!(rt, "  {i}: tray {to} is tray {a} + tray {b}")?,
+        Op::Multiply => println!(rt, "  {i}: tray {to} is tray {a} * tray {b}")?,
+        Op::Scale => println!(rt, "  {i}: tray {to} is tray {a} * {k}")?,
+        Op::Shift => println!(rt, "  {i}: tray {to} is tray {a} + {k}")?,
+    }
+    Ok(())
+}
+
+// The steps, whether one is bad, how many trays they need and what they cost.
+fn check_steps(rt: &LibcRuntime, modulus: &Modulus, steps: &[Step]) -> Result<(), AnyError> {
+    for (i, s) in steps.iter().enumerate() {
+        print_step(rt, i, *s)?;
+    }
+    match first_bad(modulus, steps) {
+        Some(i) => println!(rt, "  step {i} is bad")?,
+        None => println!(rt, "  no step is bad")?,
+    }
+    let needed = trays(steps);
+    match cost(steps) {
+        Ok(c) => {
+            let multiplications = c.multiplications;
+            let depth = c.depth;
+            println!(
+                rt,
+                "  trays {needed}, multiplications {multiplications}, depth {depth}"
+            )?;
+        }
+        Err(refusal) => print_refusal(rt, refusal)?,
+    }
+    Ok(())
+}
+
+// A step that reads one tray and a number.
+fn with_number(op: Op, to: u8, a: u8, k: u16) -> Step {
+    Step { op, to, a, b: 0, k }
+}
+
+// The steps of X + X(X − 1) modulo 8; the fifth multiplies trays 1 and b.
+fn square_steps(rt: &LibcRuntime, modulus: &Modulus, b: u8) -> Result<(), AnyError> {
+    let product = Step {
+        op: Op::Multiply,
+        to: 1,
+        a: 1,
+        b,
+        k: 0,
+    };
+    let steps = [
+        with_number(Op::Shift, 2, 0, 7),
+        with_number(Op::Scale, 1, 2, 1),
+        with_number(Op::Shift, 1, 1, 1),
+        with_number(Op::Shift, 2, 0, 0),
+        product,
+        with_number(Op::Shift, 1, 1, 0),
+    ];
+    check_steps(rt, modulus, &steps)
+}
+
+fn step_lists(rt: &LibcRuntime) -> Result<(), AnyError> {
+    if let Ok(modulus) = Modulus::new(2, 3) {
+        println!(rt, "modulo 2^3, X + X(X - 1)")?;
+        square_steps(rt, &modulus, 2)?;
+        println!(
+            rt,
+            "modulo 2^3, the same with a tray that was never written"
+        )?;
+        square_steps(rt, &modulus, 3)?;
+    }
+    Ok(())
+}
+
 fn run(rt: &LibcRuntime) -> Result<(), AnyError> {
     println!(rt, "Tables, offered value by value")?;
     tables(rt)?;
@@ -283,6 +366,8 @@ fn run(rt: &LibcRuntime) -> Result<(), AnyError> {
     judge_full(rt)?;
     println!(rt, "Polynomials in powers of X that may be one function")?;
     equivalents(rt)?;
+    println!(rt, "Step lists")?;
+    step_lists(rt)?;
     println!(rt, "Counts")?;
     print_count(rt, 2, 8)?;
     println!(

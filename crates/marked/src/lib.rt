@@ -27,6 +27,11 @@ mod tests {
     use modulus::refusal::Refusal;
     use modulus::refusal::RefusalDebug;
     use modulus::refusal::RefusalPartialEq;
+    use plan::check::first_bad;
+    use plan::check::trays;
+    use plan::cost::cost;
+    use plan::step::Op;
+    use plan::step::Step;
     use poly::alike::alike;
     use poly::newton::evaluate;
     use poly::null::null;
@@ -255,6 +260,24 @@ mod tests {
             Ok(_) => (0, 0),
             Err(refusal) => (refusal.number(), refusal.place()),
         }
+    }
+
+    #[test]
+    fn step_160_is_bad() -> Result<(), Fail> {
+        let Ok(modulus) = Modulus::new(2, 3) else {
+            return Err(Fail::new("not listed"));
+        };
+        let steps = [Step {
+            op: Op::Shift,
+            to: 1,
+            a: 0,
+            b: 0,
+            k: 7,
+        }; 161];
+        check(first_bad(&modulus, &steps[0..160]).is_none())?;
+        check(first_bad(&modulus, &steps) == Some(160))?;
+        check(trays(&steps) == 2)?;
+        check(cost(&steps).is_err())
     }
 
     #[test]

@@ -3,11 +3,11 @@ use mathlib.Core.Bool.{Bool, true, false, _&&_}
 use mathlib.Core.List.{List, [], _∷_, _++_}
 use mathlib.Core.Logic.{_⊎_, inl, inr}
 use mathlib.Core.Path.{_≡_, refl, sym, ap, subst, _∙_}
-use Prim.Native.Nat.{ℕ, zero, suc, _+_, _≤_, _<_}
+use Prim.Native.Nat.{ℕ, zero, suc, _<_}
 use native.Mathlib.Decide.{ℕ-discrete}
 use native.Mathlib.Omega.{arith}
 use lib.Dec.{T, eqb, ltb, eqb→eq, ltb→lt, lt→ltb}
-use lib.ListN.{length, getD, set, take, replicate}
+use lib.ListN.{length, getD, set, replicate}
 use borrow.Author.Tests.{eq-eqb}
 use Rattle.std.proofs.shelf.Lists.{getD-set-same, getD-set-other}
 use Rattle.plan.specs.Marks.{marked, good-by}
@@ -91,6 +91,7 @@ marks-none n = record { right = λ t _. right t; all = λ t _. all t }
     right : (t : ℕ) → getD (true ∷ replicate n false) t false ≡ true → Readable [] t
     right zero h = inl refl
     right (suc t) h = absurd (no-marks n t h)
+
     all : (t : ℕ) → Readable [] t → getD (true ∷ replicate n false) t false ≡ true
     all zero h = refl
     all (suc t) (inl e) = absurd (omega arith)
@@ -124,9 +125,11 @@ marks-more before readable s lt marks = record { right = right; all = all }
         old : Readable before t → Readable (before ++ s ∷ []) t
         old (inl e) = inl e
         old (inr w) = inr (written-old before s t w)
+
         go : Dec (t ≡ s .to) → Readable (before ++ s ∷ []) t
         go (yes same) = inr (subst (λ (n : ℕ). Written (before ++ s ∷ []) n) (sym same) (written-new before s))
         go (no other) = old (marks .right t small (sym (getD-set-other readable (s .to) t true false other) ∙ h))
+
     all : (t : ℕ) → t < 64 → Readable (before ++ s ∷ []) t → getD (set readable (s .to) true) t false ≡ true
     all t small r = go (ℕ-discrete t (s .to)) r
       where
@@ -137,6 +140,7 @@ marks-more before readable s lt marks = record { right = right; all = all }
             pick : Written before t ⊎ (s .to ≡ t) → Readable before t
             pick (inl v) = inr v
             pick (inr e) = absurd (other (sym e))
+
         go : Dec (t ≡ s .to) → Readable (before ++ s ∷ []) t → getD (set readable (s .to) true) t false ≡ true
         go (yes same) q = subst (λ (n : ℕ). getD (set readable (s .to) true) n false ≡ true) (sym same) (getD-set-same readable (s .to) true false lt)
         go (no other) q = getD-set-other readable (s .to) t true false other ∙ marks .all t small (back q other)

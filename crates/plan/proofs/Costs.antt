@@ -1,12 +1,12 @@
 -- What a step list costs, step by step. Assumes nothing.
-use mathlib.Core.List.{List, [], _∷_}
-use mathlib.Core.Path.{_≡_, refl, sym, ap, subst, _∙_}
+use mathlib.Core.List.{List}
+use mathlib.Core.Path.{_≡_, sym, ap, subst, _∙_}
 use Prim.Native.Nat.{ℕ, zero, suc, _+_, _*_, _≤_, _<_, max}
 use native.Mathlib.Decide.{ℕ-discrete}
 use native.Mathlib.Omega.{arith}
 use lib.ListN.{length, getD, set, drop, replicate}
 use Rattle.std.proofs.shelf.Lists.{drop-more, length-set, getD-set-same, getD-set-other}
-use Rattle.plan.specs.Steps.{depth-by, depth-from, multiplies, multiplications-of, step-at}
+use Rattle.plan.specs.Steps.{depth-by, depth-from, multiplies, step-at}
 use Rattle.plan.specs.declared.step.Op.{Op}
 use Rattle.plan.specs.declared.step.Op.the-variants.{Add, Multiply, Scale, Shift}
 use Rattle.plan.specs.declared.step.Step.{Step}
@@ -38,7 +38,7 @@ depth-more multiply scale i d greatest whole steps depths within weights len tra
     let s = step-at steps i in
     let bound : d ≤ 32 * i + multiply + scale = subst (λ (n : ℕ). n ≤ 32 * i + multiply + scale) (sym is) (depth-bound multiply scale (32 * i) depths s (s .op) small) in
     let here : depth-from multiply scale (set depths (s .to) (depth-by multiply scale depths s (s .op))) (max greatest (depth-by multiply scale depths s (s .op))) (drop (i + 1) steps) ≡ whole =
-        sym (ap (λ (xs : List Step). depth-from multiply scale depths greatest xs) (drop-more steps i _ within)) ∙ rest in
+    sym (ap (λ (xs : List Step). depth-from multiply scale depths greatest xs) (drop-more steps i _ within)) ∙ rest in
     (length-set depths (s .to) d ∙ len, (λ t. each t bound), subst (λ (n : ℕ). depth-from multiply scale (set depths (s .to) n) (max greatest n) (drop (i + 1) steps) ≡ whole) (sym is) here)
   where
     each : (t : ℕ) → d ≤ 32 * i + multiply + scale → getD (set depths (step-at steps i .to) d) t 0 ≤ 32 * (i + 1)

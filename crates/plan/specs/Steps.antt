@@ -2,7 +2,7 @@
 use mathlib.Core.Path.{_≡_}
 use mathlib.Core.List.{List, [], _∷_}
 use mathlib.Core.Logic.{_⊎_}
-use Prim.Native.Nat.{ℕ, suc, _+_, _≤_, _<_, max}
+use Prim.Native.Nat.{ℕ, _+_, _≤_, _<_, max}
 use lib.ListN.{length, getD, set, take, replicate}
 use Rattle.plan.specs.declared.step.Op.{Op}
 use Rattle.plan.specs.declared.step.Op.the-variants.{Add, Multiply, Scale, Shift}
@@ -53,10 +53,14 @@ pub record First-bad (m : ℕ) (steps : List Step) (i : ℕ) : Type 0 where
   pub before : (j : ℕ) → j < i → Good-at m steps j
 
 -- ---- trays
--- one tray more than the greatest number in the list, and at least 1
+-- the greatest tray number in the list; 0 without steps
+abbrev pub greatest-of : List Step → ℕ
+greatest-of [] = 0
+greatest-of (s ∷ steps) = max (max (s .to) (max (s .a) (s .b))) (greatest-of steps)
+
+-- one tray more than the greatest number in the list, and so at least 1
 abbrev pub trays-of : List Step → ℕ
-trays-of [] = 1
-trays-of (s ∷ steps) = max (suc (max (s .to) (max (s .a) (s .b)))) (trays-of steps)
+trays-of steps = greatest-of steps + 1
 
 -- ---- cost
 -- how many steps multiply

@@ -5,7 +5,7 @@ ghost use Prim.Native.Nat.{ℕ, _<_};
 ghost use lib.ListN.{getD, length};
 ghost use Rattle.std.specs.Options.{Cases as BySome};
 ghost use Rattle.plan.specs.Marks.{good-by, marked};
-ghost use Rattle.plan.specs.Steps.{First-bad, Passes, trays-of};
+ghost use Rattle.plan.specs.Steps.{First-bad, greatest-of, Passes, trays-of};
 use crate::step::Op;
 use crate::step::Step;
 use modulus::listed::Modulus;
@@ -41,14 +41,14 @@ fn is_good(m: u32, readable: &[bool], s: Step) -> bool
         && formed(m, readable, s)
 }
 
-// The first bad step of the list under the modulus, or none.
-pub fn first_bad(modulus: &Modulus, steps: &[Step]) -> Option<usize>
-    ensures { λ r. ⌜ BySome r (Passes (now (modulus .entry) .value) (now (steps .entry))) (λ i. First-bad (now (modulus .entry) .value) (now (steps .entry)) i) ⌝ }
+// The first bad step of the list under a modulus of this value, or none.
+fn bad_step(m: u32, steps: &[Step]) -> Option<usize>
+    ensures { λ r. ⌜ BySome r (Passes m (now (steps .entry))) (λ i. First-bad m (now (steps .entry)) i) ⌝ }
 {
     let mut readable = [false; TRAYS];
     readable[0] = true;
     for (i, s) in steps.iter().enumerate() {
-        if i >= STEPS || !is_good(modulus.value(), &readable, *s) {
+        if i >= STEPS || !is_good(m, &readable, *s) {
             return Some(i);
         }
         readable[s.to as usize] = true;
@@ -56,14 +56,28 @@ pub fn first_bad(modulus: &Modulus, steps: &[Step]) -> Option<usize>
     None
 }
 
+// The first bad step of the list under the modulus, or none.
+pub fn first_bad(modulus: &Modulus, steps: &[Step]) -> Option<usize>
+    ensures { λ r. ⌜ BySome r (Passes (now (modulus .entry) .value) (now (steps .entry))) (λ i. First-bad (now (modulus .entry) .value) (now (steps .entry)) i) ⌝ }
+{
+    bad_step(modulus.value(), steps)
+}
+
+// The greatest tray number in the list; 0 without steps.
+fn greatest(steps: &[Step]) -> u8
+    ensures { λ r. ⌜ r ≡ greatest-of (now (steps .entry)) ⌝ }
+{
+    let mut found: u8 = 0;
+    for s in steps {
+        let here = s.to.max(s.a.max(s.b));
+        found = found.max(here);
+    }
+    found
+}
+
 // How many trays the list needs: one more than the greatest number in it, and at least 1.
 pub fn trays(steps: &[Step]) -> usize
     ensures { λ r. ⌜ r ≡ trays-of (now (steps .entry)) ⌝ }
 {
-    let mut needed: usize = 1;
-    for s in steps {
-        let greatest = s.to.max(s.a.max(s.b)) as usize;
-        needed = needed.max(greatest + 1);
-    }
-    needed
+    greatest(steps) as usize + 1
 }

@@ -14,6 +14,7 @@ const NUMBERS: usize = 256;
 
 // The weight of a multiplication and of a scaling in a depth.
 const MULTIPLY: u32 = 1;
+
 const SCALE: u32 = 0;
 
 // A list's number of steps, how many of them multiply, and its depth: the greatest number of multiplications that lie one behind the other.
