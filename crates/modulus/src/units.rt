@@ -82,6 +82,35 @@ fn inverse(modulus: &Modulus, u: u32) -> u32
     r
 }
 
+// The power of p in a part.
+fn prime_power(modulus: &Modulus, part: PrimePart) -> u32
+    requires { ⌜ part .exponent < now modulus .exponent ⌝ }
+    ensures { λ r. ⌜ r ≡ now (modulus .entry) .prime ^ part .exponent ⌝ }
+{
+    power(modulus.prime(), part.exponent)
+}
+
+// The inverse modulo p ^ e of what is left in a part.
+fn inverse_of_rest(modulus: &Modulus, part: PrimePart) -> u32
+    requires unit { ⌜ 0 < part .rest % now modulus .prime ⌝ }
+    requires small { ⌜ part .rest < now modulus .value ⌝ }
+    ensures one { λ r. ⌜ (part .rest * r) % now (modulus .entry) .value ≡ 1 ⌝ }
+    ensures small { λ r. ⌜ r < now (modulus .entry) .value ⌝ }
+{
+    inverse(modulus, part.rest)
+}
+
+// A rest that the power of p divides, without that power and times the inverse of the unit; one below m over that power is enough.
+fn quotient(m: u32, shared: u32, rest: u32, inverse: u32) -> u32
+    requires some { ⌜ 0 < shared ⌝ }
+    requires bounded { ⌜ 0 < m / shared ⌝ }
+    requires rest { ⌜ rest ≤ 65535 ⌝ }
+    requires inverse { ⌜ inverse ≤ 65535 ⌝ }
+    ensures { λ r. ⌜ r ≡ (rest / shared * inverse) % (m / shared) ⌝ }
+{
+    rest / shared * inverse % (m / shared)
+}
+
 // The same from place μ on, where i! is 0 modulo p ^ e.
 fn divide_past(modulus: &Modulus, i: u32, rest: u32) -> Option<u32>
     requires { ⌜ now modulus .mu ≤ i ⌝ }
@@ -102,11 +131,12 @@ fn divide_before(modulus: &Modulus, i: u32, rest: u32) -> Option<u32>
     let m = modulus.value();
     let rest = rest % m;
     let part = factorial(modulus, i);
-    let shared = power(modulus.prime(), part.exponent);
+    let shared = prime_power(modulus, part);
     if rest % shared != 0 {
         return None;
     }
-    Some(rest / shared * inverse(modulus, part.rest) % (m / shared))
+    let inverse = inverse_of_rest(modulus, part);
+    Some(quotient(m, shared, rest, inverse))
 }
 
 impl Modulus {

@@ -16,7 +16,7 @@ use Rattle.modulus.proofs.Congruences.{cong-refl, cong-path, cong-sym, cong-tra
 use Rattle.modulus.proofs.Bounds.{w-past, w-positive}
 use Rattle.poly.specs.Polynomial.{value, scaled, falling, form}
 use Rattle.poly.specs.Reduced.{Reduced, Same-form}
-use Rattle.poly.specs.Equivalents.{Alike, Null, Same-polynomial, Reduces, null-at, combination, difference, Span, Told-apart}
+use Rattle.poly.specs.Equivalents.{Alike, Null, Same-polynomial, Reduces, null-at, combination, difference, Gives-back, Span, Told-apart}
 use Rattle.poly.proofs.Points.{everywhere, unique, vanish}
 use Rattle.poly.specs.Basis.{ordinary, to-newton}
 use Rattle.poly.proofs.Basis.{to-newton-value}
@@ -62,12 +62,8 @@ reduces p e h f c k mu r s =
       only = λ d rd b. alike-same-form p e h d c rd r (λ x. cong-trans (b x) (cong-sym (a x)));
     }
 
-pub reduces-unique : (p e : ℕ) (f : List ℤ) (c d : List ℕ) → Reduces p e f c → Reduces p e f d → Same-form c d
-reduces-unique p e f c d h k = k .only c (h .reduced) (h .alike)
-
--- a reduced form is its own
-pub reduces-reduced : (p e : ℕ) → Listed p e → (d : List ℕ) → Reduced p e d → (c : List ℕ) → Reduces p e (form d) c → Same-form c d
-reduces-reduced p e h d r c k i = sym (k .only d r (λ x. cong-refl (p ^ e) (value (form d) (pos x))) i)
+pub gives-back : Gives-back
+gives-back p e c d f r same k = k .only c r (same-alike (p ^ e) (form c) f same)
 
 -- ---- what tells two polynomials apart
 value-difference : (f g : List ℤ) (x : ℤ) → value (difference f g) x ≡ value f x +ℤ negsuc 0 *ℤ value g x

@@ -27,6 +27,10 @@ pub record Reduces (p e : ℕ) (f : List ℤ) (c : List ℕ) : Type 0 where
   pub alike : Alike (p ^ e) (form c) f
   pub only : (d : List ℕ) → Reduced p e d → Alike (p ^ e) (form d) f → Same-form d c
 
+-- reducing a reduced form gives it back: f is the form c in powers of X, and what f reduces to is c again
+abbrev pub Gives-back : Type 0
+Gives-back = (p e : ℕ) (c d : List ℕ) (f : List ℤ) → Reduced p e c → Same-polynomial (p ^ e) (form c) f → Reduces p e f d → Same-form c d
+
 -- a list of natural numbers as coefficients in powers of X
 abbrev pub ints : List ℕ → List ℤ
 ints xs = map pos xs

@@ -1,6 +1,6 @@
 // Falling factorials and Newton forms in powers of X, modulo m.
 ghost use mathlib.Core.Path.{_≡_};
-ghost use Prim.Native.Nat.{ℕ, _%_, _*_, _+_, _<_, _≤_};
+ghost use Prim.Native.Nat.{ℕ, _%_, _*_, _+_, _-_, _<_, _≤_};
 ghost use lib.ListN.{drop, getD, length, take};
 ghost use Rattle.std.specs.Results.{Cases};
 ghost use Rattle.poly.specs.Equivalents.{Same-polynomial, ints};
@@ -14,6 +14,14 @@ use modulus::refusal::Refusal;
 // Room for the coefficients of a polynomial and for one factor more.
 pub(crate) const ROOM: usize = 65;
 
+// −i modulo m.
+fn negative(m: u32, i: u32) -> u32
+    requires { ⌜ 1 < m ⌝ }
+    ensures { λ r. ⌜ r ≡ (m - i % m) % m ⌝ }
+{
+    (m - i % m) % m
+}
+
 // Multiplies (X)_i by X − i.
 fn next_falling(list: &mut [u16], m: u32, i: u32)
     requires above { ⌜ 1 < m ⌝ }
@@ -22,7 +30,7 @@ fn next_falling(list: &mut [u16], m: u32, i: u32)
     requires holds { ⌜ Holds m (falling i) (i + 1) (now list) ⌝ }
     ensures { λ _. ⌜ Holds m (falling (i + 1)) (i + 1 + 1) (now (list .exit)) ⌝ }
 {
-    shift_in(list, m, 0, (m - i % m) % m, 0);
+    shift_in(list, m, 0, negative(m, i), 0);
 }
 
 // (X)_i.

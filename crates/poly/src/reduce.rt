@@ -8,7 +8,7 @@ ghost use Rattle.modulus.specs.Bounds.{Mu};
 ghost use Rattle.modulus.specs.Congruence.{Cong};
 ghost use Rattle.modulus.specs.Moduli.{Listed};
 ghost use Rattle.poly.specs.Basis.{ordinary, to-newton};
-ghost use Rattle.poly.specs.Equivalents.{Reduces, ints};
+ghost use Rattle.poly.specs.Equivalents.{Gives-back, Reduces, ints};
 ghost use Rattle.poly.specs.Powers.{No-list, No-reduction, Taken};
 use crate::powers::ROOM;
 use crate::powers::copy_front;
@@ -68,6 +68,7 @@ fn write_reduced(modulus: &Modulus, list: &[u32], out: &mut [u16])
     requires room { ⌜ now modulus .mu ≤ length (now out) ⌝ }
     ensures written { λ _. ⌜ Reduces (now (modulus .entry) .prime) (now (modulus .entry) .exponent) (ints (now (list .entry))) (take (now (modulus .entry) .mu) (now (out .exit))) ⌝ }
     ensures beyond { λ _. ⌜ drop (now (modulus .entry) .mu) (now (out .exit)) ≡ drop (now (modulus .entry) .mu) (now (out .entry)) ⌝ }
+    ensures back { λ _. ⌜ Gives-back ⌝ }
 {
     let reduced = reduced_form(modulus, list);
     copy_front(out, &reduced, modulus.mu() as usize);
@@ -77,7 +78,7 @@ fn write_reduced(modulus: &Modulus, list: &[u32], out: &mut [u16])
 // answers μ, and what lies past them stays. Refuses a modulus off the list, then a list of more than 64, then the first coefficient that is not below the modulus,
 // then a buffer that is too short, and leaves the buffer as it is.
 pub fn reduce(p: u32, e: u32, list: &[u32], out: &mut [u16]) -> Result<usize, Refusal>
-    ensures { λ r. ⌜ Cases r (λ n. Listed p e × Taken (p ^ e) (now (list .entry)) × Mu p e n × (n ≤ length (now (out .entry))) × Reduces p e (ints (now (list .entry))) (take n (now (out .exit))) × (drop n (now (out .exit)) ≡ drop n (now (out .entry)))) (λ f. No-reduction p e (now (list .entry)) (length (now (out .entry))) f × (now (out .exit) ≡ now (out .entry))) ⌝ }
+    ensures { λ r. ⌜ Cases r (λ n. Listed p e × Taken (p ^ e) (now (list .entry)) × Mu p e n × (n ≤ length (now (out .entry))) × Reduces p e (ints (now (list .entry))) (take n (now (out .exit))) × (drop n (now (out .exit)) ≡ drop n (now (out .entry))) × Gives-back) (λ f. No-reduction p e (now (list .entry)) (length (now (out .entry))) f × (now (out .exit) ≡ now (out .entry))) ⌝ }
 {
     let modulus = Modulus::new(p, e)?;
     check_list(&modulus, list)?;

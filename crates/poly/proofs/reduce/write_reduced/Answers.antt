@@ -3,7 +3,7 @@ use mathlib.Core.List.{List}
 use Prim.Native.Nat.{ℕ}
 use lib.ListN.{take, drop}
 use Rattle.poly.specs.Equivalents.{Reduces, ints}
-use Rattle.poly.proofs.Equivalents.{reduces-front}
+use Rattle.poly.proofs.Equivalents.{gives-back, reduces-front}
 use Rattle.poly.proofs.reduce.write_reduced.Needs as need
 
 pub returns : need.returns
@@ -16,4 +16,5 @@ returns c =
     record {
       written = subst (λ (ys : List ℕ). Reduces (m .prime) (m .exponent) f ys) (sym written) (reduces-front (m .prime) (m .exponent) f xs (m .mu) (c .reduced-form-reduced .ensures .form) (c .reduced-form-reduced .ensures .clear));
       beyond = subst (λ (n : ℕ). drop n (c .copy-front .last .out) ≡ drop n (c .args .out .now)) is (c .copy-front .ensures .beyond);
+      back = gives-back;
     }
