@@ -1,10 +1,10 @@
 // Lists in powers of X, and their reduced forms.
 ghost use mathlib.Core.Path.{_≡_};
-ghost use Prim.Native.Nat.{ℕ, _^_, _<_, _≤_};
+ghost use Prim.Native.Nat.{ℕ, _%_, _^_, _<_, _≤_};
 ghost use lib.IntN.{pos};
 ghost use lib.ListN.{drop, getD, length, take};
 ghost use Rattle.std.specs.Results.{Cases};
-ghost use Rattle.modulus.specs.Bounds.{Mu};
+ghost use Rattle.modulus.specs.Bounds.{Mu, w};
 ghost use Rattle.modulus.specs.Congruence.{Cong};
 ghost use Rattle.modulus.specs.Moduli.{Listed};
 ghost use Rattle.poly.specs.Basis.{ordinary, to-newton};
@@ -48,6 +48,21 @@ fn newton_form(m: u32, list: &[u32]) -> [u16; ROOM]
     newton
 }
 
+// w(i) as a divisor: it is never 0.
+fn divisor(modulus: &Modulus, i: u32) -> u32
+    ensures is { λ r. ⌜ r ≡ w (now (modulus .entry) .prime) (now (modulus .entry) .exponent) i ⌝ }
+    ensures some { λ r. ⌜ 0 < r ⌝ }
+{
+    modulus.bound(i)
+}
+
+// A coefficient in place i, brought below the bound of its place.
+fn below_bound(modulus: &Modulus, i: u32, c: u16) -> u16
+    ensures { λ r. ⌜ r ≡ c % w (now (modulus .entry) .prime) (now (modulus .entry) .exponent) i ⌝ }
+{
+    (u32::from(c) % divisor(modulus, i)) as u16
+}
+
 // The reduced form of a list in powers of X.
 pub(crate) fn reduced_form(modulus: &Modulus, list: &[u32]) -> [u16; PLACES]
     requires { ⌜ Taken (now modulus .value) (now list) ⌝ }
@@ -57,7 +72,7 @@ pub(crate) fn reduced_form(modulus: &Modulus, list: &[u32]) -> [u16; PLACES]
     let newton = newton_form(modulus.value(), list);
     let mut reduced = [0; PLACES];
     for i in 0..modulus.mu() {
-        reduced[i as usize] = (u32::from(newton[i as usize]) % modulus.bound(i)) as u16;
+        reduced[i as usize] = below_bound(modulus, i, newton[i as usize]);
     }
     reduced
 }

@@ -1,6 +1,5 @@
 use mathlib.Core.Path.{_≡_, refl}
 use native.Mathlib.Omega.{arith}
-use Rattle.modulus.proofs.Bounds.{w-positive}
 use Rattle.poly.specs.Equivalents.{ints}
 use Rattle.poly.proofs.Equivalents.{reduces-remainders}
 use Rattle.poly.proofs.Standing.{zeros}
@@ -8,11 +7,6 @@ use Rattle.poly.proofs.reduce.reduced_form.Needs as need
 
 pub loop-i-holds : need.loop-i-holds
 loop-i-holds c = (refl, (λ k h. absurd (omega arith)), λ k _. zeros 52 k)
-
-pub rem-reduced : need.rem-reduced
-rem-reduced c =
-    let m = c .args .modulus .now in
-    rw (c .bound .ensures) (w-positive (m .prime) (m .exponent) (c .loop-i .i) (m .listed))
 
 pub returns : need.returns
 returns c =
