@@ -6,9 +6,8 @@ use mathlib.Core.Path.{_≡_, refl, sym, ap, subst, _∙_}
 use Prim.Native.Nat.{ℕ, zero, suc, _<_}
 use native.Mathlib.Decide.{ℕ-discrete}
 use native.Mathlib.Omega.{arith}
-use lib.Dec.{T, eqb, ltb, eqb→eq, ltb→lt, lt→ltb}
+use lib.Dec.{T, eqb, ltb, eqb→eq, ltb→lt}
 use lib.ListN.{length, getD, set, replicate}
-use borrow.Author.Tests.{eq-eqb}
 use Rattle.std.proofs.shelf.Lists.{getD-set-same, getD-set-other}
 use Rattle.plan.specs.Marks.{marked, good-by}
 use Rattle.plan.specs.Steps.{Written, Readable, Formed, Good}
@@ -32,19 +31,8 @@ both-second : (a b : Bool) → (a && b) ≡ true → b ≡ true
 both-second true b h = h
 both-second false b h = absurd (false-not-true h)
 
-both : (a b : Bool) → a ≡ true → b ≡ true → (a && b) ≡ true
-both true b ha hb = hb
-both false b ha hb = ha
-
 from-ltb : (a b : ℕ) → ltb a b ≡ true → a < b
 from-ltb a b h = ltb→lt a b (subst T (sym h) tt)
-
-to-ltb : (a b : ℕ) → a < b → ltb a b ≡ true
-to-ltb a b h = is (ltb a b) (lt→ltb a b h)
-  where
-    is : (t : Bool) → T t → t ≡ true
-    is true h = refl
-    is false h = absurd h
 
 from-eqb : (a b : ℕ) → eqb a b ≡ true → a ≡ b
 from-eqb a b h = eqb→eq a b (subst T (sym h) tt)
@@ -56,12 +44,6 @@ module _ (m : ℕ) (before : List Step) (readable : List Bool) (marks : Marks be
   formed-from Scale lt h = (from-eqb (s .b) 0 (both-first (eqb (s .b) 0) (ltb (s .k) m) h), from-ltb (s .k) m (both-second (eqb (s .b) 0) (ltb (s .k) m) h))
   formed-from Shift lt h = (from-eqb (s .b) 0 (both-first (eqb (s .b) 0) (ltb (s .k) m) h), from-ltb (s .k) m (both-second (eqb (s .b) 0) (ltb (s .k) m) h))
 
-  pub formed-to : (op : Op) → s .b < 64 → Formed m before s op → marked m readable s op ≡ true
-  formed-to Add lt h = both (getD readable (s .b) false) (eqb (s .k) 0) (marks .all (s .b) lt (h .0)) (eq-eqb (s .k) 0 (h .1))
-  formed-to Multiply lt h = both (getD readable (s .b) false) (eqb (s .k) 0) (marks .all (s .b) lt (h .0)) (eq-eqb (s .k) 0 (h .1))
-  formed-to Scale lt h = both (eqb (s .b) 0) (ltb (s .k) m) (eq-eqb (s .b) 0 (h .0)) (to-ltb (s .k) m (h .1))
-  formed-to Shift lt h = both (eqb (s .b) 0) (ltb (s .k) m) (eq-eqb (s .b) 0 (h .0)) (to-ltb (s .k) m (h .1))
-
   pub good-from : good-by m readable s ≡ true → Good m before s
   good-from h =
       let h₁ = both-second (ltb (s .to) 64) _ h in
@@ -71,13 +53,6 @@ module _ (m : ℕ) (before : List Step) (readable : List Bool) (marks : Marks be
       let a : s .a < 64 = from-ltb (s .a) 64 (both-first (ltb (s .a) 64) _ h₁) in
       let b : s .b < 64 = from-ltb (s .b) 64 (both-first (ltb (s .b) 64) _ h₂) in
       record { to-tray = to; a-tray = a; b-tray = b; reads = marks .right (s .a) a (both-first (getD readable (s .a) false) _ h₃); formed = formed-from (s .op) b (both-second (getD readable (s .a) false) _ h₃) }
-
-  pub good-to : Good m before s → good-by m readable s ≡ true
-  good-to g =
-      both (ltb (s .to) 64) _ (to-ltb (s .to) 64 (g .to-tray))
-      (both (ltb (s .a) 64) _ (to-ltb (s .a) 64 (g .a-tray))
-      (both (ltb (s .b) 64) _ (to-ltb (s .b) 64 (g .b-tray))
-      (both (getD readable (s .a) false) _ (marks .all (s .a) (g .a-tray) (g .reads)) (formed-to (s .op) (g .b-tray) (g .formed)))))
 
 -- ---- the marks before the first step, and behind one step more
 no-marks : (n t : ℕ) → getD (replicate n false) t false ≡ true → ⊥
