@@ -1,3 +1,5 @@
 // The desk: a list of uses carried out on a freshly opened fit, and the law over every such list.
+#![tactic(auto)]
+
 pub mod carry;
 pub mod uses;

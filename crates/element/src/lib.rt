@@ -1,4 +1,6 @@
 // Elements: what plans run over, behind one interface.
+#![tactic(auto)]
+
 pub mod arith;
 pub mod bare;
 pub mod levelled;

@@ -1,2 +1,4 @@
 // The fit: a table of values, judged value by value, with the reduced polynomial that takes them.
+#![tactic(auto)]
+
 pub mod table;

@@ -1,4 +1,6 @@
 // Takes worked tables through fits and prints what was answered.
+#![tactic(auto)]
+
 use anyhow::anyhow;
 use element::bare::Bare;
 use element::rules::Open;

@@ -1,4 +1,6 @@
 // Jobs as text: a prime, an exponent and values in, a report out.
+#![tactic(auto)]
+
 pub mod call;
 mod figures;
 mod lines;

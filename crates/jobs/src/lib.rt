@@ -1,5 +1,7 @@
 // Jobs and the reports on them, byte for byte. The tests are all that this crate has.
 
+#![tactic(auto)]
+
 #[cfg(test)]
 mod tests {
     use job::call::report;

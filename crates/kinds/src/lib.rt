@@ -1,4 +1,6 @@
 // Kinds of elements: one more kind, which shows how to add one, and tests of every kind, of runs and of holds.
+#![tactic(auto)]
+
 pub mod triple;
 
 #[cfg(test)]

@@ -1,4 +1,6 @@
 // Worked examples: proved of the definitions as one table, and run through the code.
+#![tactic(auto)]
+
 ghost use Rattle.std.specs.Prelude.{◌≡◌};
 ghost use Rattle.marked.specs.Marked.{Marked, how_many};
 

@@ -1,4 +1,6 @@
 // Worked examples of plans and runs, proved of the definitions as one table.
+#![tactic(auto)]
+
 ghost use Rattle.std.specs.Prelude.{◌≡◌};
 ghost use Rattle.marked_runs.specs.Marked.{Marked, how_many};
 

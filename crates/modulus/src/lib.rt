@@ -1,4 +1,6 @@
 // The moduli that the engine takes, their bounds, and the refusals.
+#![tactic(auto)]
+
 pub mod count;
 pub mod listed;
 pub mod refusal;

@@ -1,4 +1,6 @@
 // Step lists: steps on numbered trays, their check and their cost.
+#![tactic(auto)]
+
 pub mod check;
 pub mod cost;
 pub mod step;

@@ -1,5 +1,7 @@
 // Plans as they are written for fits, run at whole numbers. The tests are all that this crate has.
 
+#![tactic(auto)]
+
 #[cfg(test)]
 mod tests {
     use fit::table::Fit;

@@ -1,4 +1,6 @@
 // Plans for a fit: the two layouts, and the call that writes one.
+#![tactic(auto)]
+
 mod block;
 mod draft;
 pub mod issue;

@@ -1,4 +1,6 @@
 // Polynomials modulo a listed modulus.
+#![tactic(auto)]
+
 pub mod alike;
 pub mod newton;
 pub mod null;

@@ -1,4 +1,6 @@
 // Racks of trays, tallies and holds, and runs of step lists over elements.
+#![tactic(auto)]
+
 mod guard;
 pub mod hold;
 pub mod rack;

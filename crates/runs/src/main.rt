@@ -1,4 +1,6 @@
 // Runs the plans of one table over elements of several kinds and prints what was answered.
+#![tactic(auto)]
+
 use anyhow::anyhow;
 use element::bare::Bare;
 use element::levelled::Levelled;

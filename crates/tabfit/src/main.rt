@@ -1,4 +1,6 @@
 // Reads a job from standard input and prints the report on it.
+#![tactic(auto)]
+
 ghost use Rattle.std.specs.Prelude.{◌≤◌, length, IfOk};
 
 use anyhow::anyhow;

@@ -18,8 +18,8 @@ loop-asked-init c =
 pub loop-asked-preserved : goal.loop-asked-preserved
 loop-asked-preserved c =
     let inv = c.loop-asked.invariant in
-    let pushed = c.push-reserved.ensures in
-    (pushed.len ∙ ap (λ (n : ℕ). n + 1) inv.0, subst (λ (n : ℕ). length c.args.uses.now ≤ n) (sym pushed.capacity) inv.1, book-step (sheet_of c.args.fit.now) (sheet_of c.loop-asked.fit) (sheet_of c.perform.new.fit) c.args.uses.now c.loop-asked.asked-index (Offer 0) (vec_items c.loop-asked.answers) (vec_items c.push-reserved.new.self) c.perform.result c.loop-asked-test.true inv.2 c.perform.ensures pushed.items)
+    let pushed = c.push_reserved.ensures in
+    (pushed.len ∙ ap (λ (n : ℕ). n + 1) inv.0, subst (λ (n : ℕ). length c.args.uses.now ≤ n) (sym pushed.capacity) inv.1, book-step (sheet_of c.args.fit.now) (sheet_of c.loop-asked.fit) (sheet_of c.perform.new.fit) c.args.uses.now c.loop-asked.asked-index (Offer 0) (vec_items c.loop-asked.answers) (vec_items c.push_reserved.new.self) c.perform.result c.loop-asked-test.true inv.2 c.perform.ensures pushed.items)
 
 pub returns : goal.returns
 returns c =

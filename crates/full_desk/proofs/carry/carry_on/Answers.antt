@@ -13,7 +13,7 @@ loop-asked-preserved g c =
     let lanes = g.E.Element.lanes in
     let level = g.E.Element.level in
     let inv = c.loop-asked.invariant in
-    let pushed = c.push-reserved.ensures in
+    let pushed = c.push_reserved.ensures in
     let did = c.perform.ensures in
     let us = c.args.uses.now in
     let i = c.loop-asked.asked-index in (
@@ -21,7 +21,7 @@ loop-asked-preserved g c =
       subst (λ (n : ℕ). length us ≤ n) (sym pushed.capacity) inv.1,
       did.tally ∙ inv.2,
       did.lender ∙ inv.3,
-      kinds_more lanes level c.args.tally.now.out c.loop-asked.tally.out c.args.fit.now c.loop-asked.fit c.perform.new.fit c.args.steps.now c.loop-asked.steps c.perform.new.steps (meanings lanes level c.args.rack.now.trays.now) (meanings lanes level c.loop-asked.rack.trays.now) (meanings lanes level c.perform.new.rack.trays.now) us i c.asked-item.result (vec_items c.loop-asked.answers) (vec_items c.push-reserved.new.self) c.perform.result c.loop-asked-test.true c.asked-item.is inv.4 inv.2 did.due pushed.items,
+      kinds_more lanes level c.args.tally.now.out c.loop-asked.tally.out c.args.fit.now c.loop-asked.fit c.perform.new.fit c.args.steps.now c.loop-asked.steps c.perform.new.steps (meanings lanes level c.args.rack.now.trays.now) (meanings lanes level c.loop-asked.rack.trays.now) (meanings lanes level c.perform.new.rack.trays.now) us i c.asked-item.result (vec_items c.loop-asked.answers) (vec_items c.push_reserved.new.self) c.perform.result c.loop-asked-test.true c.asked-item.is inv.4 inv.2 did.due pushed.items,
     )
 
 pub returns : goal.returns

@@ -75,72 +75,72 @@ returns-in-Err-withdraw g c =
           (refused-due out trays f after steps steps _ c.in-Err-withdraw.refusal got.cases.1 refl (λ plans. refuses_withdrawal got.cases.0));
     }
 
-pub returns-in-Ok-plan-part : goal.returns-in-Ok-plan-part
-returns-in-Ok-plan-part g c =
+pub returns-in-Ok-plan_part : goal.returns-in-Ok-plan_part
+returns-in-Ok-plan_part g c =
     let lanes = g.E.Element.lanes in
     let level = g.E.Element.level in
-    let got = c.in-Ok-plan-part.ensures in
+    let got = c.in-Ok-plan_part.ensures in
     let out = c.args.tally.now.out in
     let trays = meanings lanes level c.args.rack.now.trays.now in
     let f = c.args.fit.now in
     let steps = c.args.steps.now in
-    let after = c.plan-part.new.steps in
+    let after = c.plan_part.new.steps in
     record {
       tally = search rules;
       lender = search rules;
-      due = subst (λ (u : Asked). Performed out f steps trays u (Ok (wrote c.in-Ok-plan-part.price)) f after trays) (sym (ap (asked_of lanes level) c.in-Plan.is))
-          (plan_due out trays f steps after c.in-Plan.kind c.in-Plan.start c.in-Plan.count c.in-Ok-plan-part.price got.0 got.1 got.2 got.3 got.4);
+      due = subst (λ (u : Asked). Performed out f steps trays u (Ok (wrote c.in-Ok-plan_part.price)) f after trays) (sym (ap (asked_of lanes level) c.in-Plan.is))
+          (plan_due out trays f steps after c.in-Plan.kind c.in-Plan.start c.in-Plan.count c.in-Ok-plan_part.price got.0 got.1 got.2 got.3 got.4);
     }
 
-pub returns-in-Err-plan-part : goal.returns-in-Err-plan-part
-returns-in-Err-plan-part g c =
+pub returns-in-Err-plan_part : goal.returns-in-Err-plan_part
+returns-in-Err-plan_part g c =
     let lanes = g.E.Element.lanes in
     let level = g.E.Element.level in
-    let got = c.in-Err-plan-part.ensures in
+    let got = c.in-Err-plan_part.ensures in
     let out = c.args.tally.now.out in
     let trays = meanings lanes level c.args.rack.now.trays.now in
     let f = c.args.fit.now in
     let steps = c.args.steps.now in
-    let after = c.plan-part.new.steps in
+    let after = c.plan_part.new.steps in
     record {
       tally = search rules;
       lender = search rules;
-      due = subst (λ (u : Asked). Performed out f steps trays u (Err c.in-Err-plan-part.refusal) f after trays) (sym (ap (asked_of lanes level) c.in-Plan.is))
-          (refused-due out trays f f steps after _ c.in-Err-plan-part.refusal refl got.1 (λ plans. refuses_plan got.0));
+      due = subst (λ (u : Asked). Performed out f steps trays u (Err c.in-Err-plan_part.refusal) f after trays) (sym (ap (asked_of lanes level) c.in-Plan.is))
+          (refused-due out trays f f steps after _ c.in-Err-plan_part.refusal refl got.1 (λ plans. refuses_plan got.0));
     }
 
-pub returns-in-Ok-run-part : goal.returns-in-Ok-run-part
-returns-in-Ok-run-part g c =
+pub returns-in-Ok-run_part : goal.returns-in-Ok-run_part
+returns-in-Ok-run_part g c =
     let lanes = g.E.Element.lanes in
     let level = g.E.Element.level in
-    let got = c.in-Ok-run-part.ensures in
+    let got = c.in-Ok-run_part.ensures in
     let out = c.args.tally.now.out in
     let trays = meanings lanes level c.args.rack.now.trays.now in
     let f = c.args.fit.now in
     let steps = c.args.steps.now in
-    let after = meanings lanes level c.run-part.new.rack.trays.now in
+    let after = meanings lanes level c.run_part.new.rack.trays.now in
     let input = meaning_of lanes level c.in-Run.input in
     record {
       tally = search rules;
       lender = search rules;
-      due = subst (λ (u : Asked). Performed out f steps trays u (Ok (ran (meaning_of lanes level c.in-Ok-run-part.element))) f steps after) (sym (ap (asked_of lanes level) c.in-Run.is))
-          (run_due out trays f steps after c.in-Run.p c.in-Run.e c.in-Run.start c.in-Run.count g.E.Element.width input (meaning_of lanes level c.in-Ok-run-part.element) (wide_rack lanes level g.E.Element.width g.met.E.Element.wide c.args.rack.now.trays.now) (g.met.E.Element.wide c.in-Run.input) got.cases);
+      due = subst (λ (u : Asked). Performed out f steps trays u (Ok (ran (meaning_of lanes level c.in-Ok-run_part.element))) f steps after) (sym (ap (asked_of lanes level) c.in-Run.is))
+          (run_due out trays f steps after c.in-Run.p c.in-Run.e c.in-Run.start c.in-Run.count g.E.Element.width input (meaning_of lanes level c.in-Ok-run_part.element) (wide_rack lanes level g.E.Element.width g.met.E.Element.wide c.args.rack.now.trays.now) (g.met.E.Element.wide c.in-Run.input) got.cases);
     }
 
-pub returns-in-Err-run-part : goal.returns-in-Err-run-part
-returns-in-Err-run-part g c =
+pub returns-in-Err-run_part : goal.returns-in-Err-run_part
+returns-in-Err-run_part g c =
     let lanes = g.E.Element.lanes in
     let level = g.E.Element.level in
-    let got = c.in-Err-run-part.ensures in
+    let got = c.in-Err-run_part.ensures in
     let out = c.args.tally.now.out in
     let trays = meanings lanes level c.args.rack.now.trays.now in
     let f = c.args.fit.now in
     let steps = c.args.steps.now in
-    let after = meanings lanes level c.run-part.new.rack.trays.now in
+    let after = meanings lanes level c.run_part.new.rack.trays.now in
     let input = meaning_of lanes level c.in-Run.input in
     record {
       tally = search rules;
       lender = search rules;
-      due = subst (λ (u : Asked). Performed out f steps trays u (Err c.in-Err-run-part.refusal) f steps after) (sym (ap (asked_of lanes level) c.in-Run.is))
-          (run_refused out trays f steps after c.in-Run.p c.in-Run.e c.in-Run.start c.in-Run.count input c.in-Err-run-part.refusal got.cases);
+      due = subst (λ (u : Asked). Performed out f steps trays u (Err c.in-Err-run_part.refusal) f steps after) (sym (ap (asked_of lanes level) c.in-Run.is))
+          (run_refused out trays f steps after c.in-Run.p c.in-Run.e c.in-Run.start c.in-Run.count input c.in-Err-run_part.refusal got.cases);
     }

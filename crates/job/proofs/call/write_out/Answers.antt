@@ -15,5 +15,5 @@ written out text text' n long fits is = (
 pub returns : goal.returns
 returns c =
     let out = page_text c.args.page.now in
-    let room : length out ≤ length c.args.text.now = omega (arith, c.in-ok-check-room.ensures, c.page-width.ensures) in
-    written out c.args.text.now c.put-page.new.text c.put-page.result c.put-page.ensures.count room c.put-page.ensures.text
+    let room : length out ≤ length c.args.text.now = omega (arith, c.in_ok-check_room.ensures, c.page_width.ensures) in
+    written out c.args.text.now c.put_page.new.text c.put_page.result c.put_page.ensures.count room c.put_page.ensures.text

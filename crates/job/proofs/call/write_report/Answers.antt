@@ -23,7 +23,7 @@ plain_numbers n small = ((decimal_is_IsNumeral n small).1, (λ some. first_decim
 pub returns : goal.returns
 returns c =
     record {
-      cases = handed c.args.job.now (page_text c.page-of-page.result) _ _ c.write-out.result c.page-of-page.ensures.reports c.write-out.ensures;
+      cases = handed c.args.job.now (page_text c.page_of-page.result) _ _ c.write_out.result c.page_of-page.ensures.reports c.write_out.ensures;
       one_job = one_job;
       one_bad_line = one_bad_line;
       one_report = one_report one_job one_bad_line;

@@ -12,10 +12,10 @@ returns c =
     let f = c.args.fit.now in
     let m = f.modulus in
     let few : report_length f ≤ 52 = omega (arith, m.few) in
-    let n = c.unwrap-or-count.result in
+    let n = c.unwrap_or-count.result in
     let report = not_short (report_length f) 52 c.report.result _ _ _ few c.report.ensures in
     let written = not_short (report_length f) 52 c.powers.result _ _ _ few c.powers.ensures in
-    let answered : n ≡ report.0 = c.unwrap-or-count.ensures ∙ ap (λ (r : Result ℕ Refusal). result_unwrap_or r 0) report.1 in
+    let answered : n ≡ report.0 = c.unwrap_or-count.ensures ∙ ap (λ (r : Result ℕ Refusal). result_unwrap_or r 0) report.1 in
     let is : n ≡ report_length f = answered ∙ report.2.0 in
     let also : n ≡ written.0 = is ∙ sym written.2.0 in
     let room : length c.report.new.out ≡ 52 = search rules in
@@ -24,8 +24,8 @@ returns c =
       standing = c.count.ensures ∙ sym (length-standing (power_of m) f.coefficients f.count);
       refusal = refl;
       few = omega (arith, is, few);
-      figures = figures_made f n c.ladder-multiplications.result c.report.new.out c.powers.new.out is (omega (arith, is, few, room)) (omega (arith, is, few, room'))
+      figures = figures_made f n c.ladder_multiplications.result c.report.new.out c.powers.new.out is (omega (arith, is, few, room)) (omega (arith, is, few, room'))
           (subst (λ (k : ℕ). Reported m.prime m.exponent (stands f) (take k c.report.new.out)) (sym answered) report.2.2)
           (subst (λ (k : ℕ). WrittenPowers f (take k c.powers.new.out)) (sym also) written.2.2)
-          c.ladder-multiplications.ensures;
+          c.ladder_multiplications.ensures;
     }

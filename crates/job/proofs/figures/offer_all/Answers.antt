@@ -18,8 +18,8 @@ loop-i-preserved c =
     let i = c.loop-i.-i in
     let f = c.loop-i.fit in
     let m = power_of c.args.fit.now.modulus in
-    let got = c.in-default.ensures in
-    let taken = c.in-default.field-0 in
+    let got = c.in_default.ensures in
+    let taken = c.in_default.field-0 in
     let fits : (r : Refusal) → NoOffer m (stands f) (get_or values i 0) r → ⊥ =
     λ r h. not_both f.modulus.prime f.modulus.exponent (stands f) (get_or values i 0) taken.place taken.coefficient r got.cases.0
     (subst (λ (n : Modulus). NoOffer (power_of n) (stands f) (get_or values i 0) r) (sym c.loop-i.invariant.0) h) in (

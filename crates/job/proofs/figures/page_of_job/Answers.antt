@@ -14,12 +14,12 @@ returns-in-Err c =
 pub returns : goal.returns
 returns c =
     let job = c.args.job.now in
-    let opened = c.in-default.ensures in
-    let offers = c.offer-all-refusal.ensures in
+    let opened = c.in_default.ensures in
+    let offers = c.offer_all-refusal.ensures in
     let made = c.figures.ensures in
     let g = c.open.new.self in
-    let h = c.offer-all-refusal.new.fit in
-    let r = c.offer-all-refusal.result in
+    let h = c.offer_all-refusal.new.fit in
+    let r = c.offer_all-refusal.result in
     let all : job.count - 0 ≡ job.count = omega arith in
     let judged : Judged (power_of g.modulus) (stands g) (values_of job) (stands h) r =
     subst (λ (k : ℕ). Judged (power_of g.modulus) (stands g) (take k job.values) (stands h) r) all offers.judged in

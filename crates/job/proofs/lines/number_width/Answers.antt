@@ -2,8 +2,8 @@ use Rattle.std.proofs.Common.{arith}
 use Rattle.job.proofs.Texts.{digit_more, few-digits, one_digit}
 use Rattle.job.proofs.lines.number_width.Goals as goal
 
-pub overflow-add-width : goal.overflow-add-width
-overflow-add-width c = omega (arith, few-digits c.args.n c.ranges.n.fits)
+pub overflow_add-width : goal.overflow_add-width
+overflow_add-width c = omega (arith, few-digits c.args.n c.ranges.n.fits)
 
 pub loop-left-preserved : goal.loop-left-preserved
 loop-left-preserved c = (omega arith, omega (arith, digit_more c.loop-left.left (omega arith) (omega (arith, c.ranges.n.fits))))

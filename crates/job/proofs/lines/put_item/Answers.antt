@@ -10,5 +10,5 @@ returns c =
     let comma = then_byte [] old old 0 44 refl refl (omega arith) in
     record {
       count = omega arith;
-      text = then_put (44 ∷ []) (decimal c.args.n) old (set old 0 44) c.put-number-2.new.text 1 c.put-number-2.result (length (set old 0 44) - 1) refl comma refl c.put-number-2.ensures.text ∙ ap (λ (bytes : List ℕ). bytes ++ drop (1 + c.put-number-2.result) old) (sym later);
+      text = then_put (44 ∷ []) (decimal c.args.n) old (set old 0 44) c.put_number-2.new.text 1 c.put_number-2.result (length (set old 0 44) - 1) refl comma refl c.put_number-2.ensures.text ∙ ap (λ (bytes : List ℕ). bytes ++ drop (1 + c.put_number-2.result) old) (sym later);
     }

@@ -4,23 +4,23 @@ use Rattle.job.specs.Text.{joined}
 use Rattle.job.proofs.Texts.{joined-all, joined-more, rest_long, then_put, width_le, width_more}
 use Rattle.job.proofs.lines.put_list.Goals as goal
 
-pub slice-bounds-put-item-count : goal.slice-bounds-put-item-count
-slice-bounds-put-item-count c = omega (arith, width_le c.args.list.now c.loop-i.i (omega arith))
+pub slice_bounds-put_item-count : goal.slice_bounds-put_item-count
+slice_bounds-put_item-count c = omega (arith, width_le c.args.list.now c.loop-i.i (omega arith))
 
-pub slice-bounds-put-item-start : goal.slice-bounds-put-item-start
-slice-bounds-put-item-start c = omega (arith, width_le c.args.list.now c.loop-i.i (omega arith))
+pub slice_bounds-put_item-start : goal.slice_bounds-put_item-start
+slice_bounds-put_item-start c = omega (arith, width_le c.args.list.now c.loop-i.i (omega arith))
 
-pub put-item-at-requires : goal.put-item-at-requires
-put-item-at-requires c =
+pub put_item-at-requires : goal.put_item-at-requires
+put_item-at-requires c =
     let list = c.args.list.now in
     let i = c.loop-i.i in
     omega (arith, width_more list i (omega arith), width_le list (i + 1) (omega arith), rest_long c.loop-i.text c.loop-i.at)
 
-pub overflow-add-at : goal.overflow-add-at
-overflow-add-at c =
+pub overflow_add-at : goal.overflow_add-at
+overflow_add-at c =
     let list = c.args.list.now in
     let i = c.loop-i.i in
-    omega (arith, width_more list i (omega arith), width_le list (i + 1) (omega arith), c.put-item-at.ensures.count)
+    omega (arith, width_more list i (omega arith), width_le list (i + 1) (omega arith), c.put_item-at.ensures.count)
 
 pub loop-i-preserved : goal.loop-i-preserved
 loop-i-preserved c =
@@ -29,8 +29,8 @@ loop-i-preserved c =
     let old = c.args.text.now in
     let text = c.loop-i.text in
     let at = c.loop-i.at in
-    let put = then_put (joined (take i list)) (item i (get_or list i 0)) old text c.put-item-at.new.text at c.put-item-at.result (length text - at) c.loop-i.invariant.0 c.loop-i.invariant.1 refl c.put-item-at.ensures.text in
-    (omega (arith, width_more list i (omega arith), c.put-item-at.ensures.count), put ∙ ap (λ (bytes : List ℕ). bytes ++ drop (at + c.put-item-at.result) old) (sym (joined-more list i (omega arith))))
+    let put = then_put (joined (take i list)) (item i (get_or list i 0)) old text c.put_item-at.new.text at c.put_item-at.result (length text - at) c.loop-i.invariant.0 c.loop-i.invariant.1 refl c.put_item-at.ensures.text in
+    (omega (arith, width_more list i (omega arith), c.put_item-at.ensures.count), put ∙ ap (λ (bytes : List ℕ). bytes ++ drop (at + c.put_item-at.result) old) (sym (joined-more list i (omega arith))))
 
 pub returns : goal.returns
 returns c =

@@ -6,7 +6,7 @@ use Rattle.job.proofs.lines.put_number.Goals as goal
 pub loop-i-init : goal.loop-i-init
 loop-i-init c =
     let ds = decimal c.args.n in
-    let long : c.number-width-width.result ≡ length ds = c.number-width-width.ensures.exact in
+    let long : c.number_width-width.result ≡ length ds = c.number_width-width.ensures.exact in
     (omega arith, lead_all _ c.args.n c.ranges.n.fits long ∙ sym (take_all _ ds (omega arith)), sym (ap (λ (k : ℕ). digits_from k ds c.args.text.now) long ∙ no_digits ds c.args.text.now))
 
 pub loop-i-preserved : goal.loop-i-preserved
@@ -20,6 +20,6 @@ returns c =
     let ds = decimal c.args.n in
     let none : c.loop-i.i ≡ 0 = omega arith in
     record {
-      count = c.number-width-width.ensures.exact;
-      text = c.loop-i.invariant.2 ∙ ap (λ (k : ℕ). digits_from k ds c.args.text.now) none ∙ ap (λ (k : ℕ). ds ++ drop k c.args.text.now) (sym c.number-width-width.ensures.exact);
+      count = c.number_width-width.ensures.exact;
+      text = c.loop-i.invariant.2 ∙ ap (λ (k : ℕ). digits_from k ds c.args.text.now) none ∙ ap (λ (k : ℕ). ds ++ drop k c.args.text.now) (sym c.number_width-width.ensures.exact);
     }

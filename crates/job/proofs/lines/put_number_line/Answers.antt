@@ -2,28 +2,28 @@ use Rattle.std.proofs.Common.{decimal, arith}
 use Rattle.job.proofs.Texts.{line_long, line_put, put-long, rest_long}
 use Rattle.job.proofs.lines.put_number_line.Goals as goal
 
-pub put-key-at-requires : goal.put-key-at-requires
-put-key-at-requires c = omega (arith, line_long c.args.key.now (decimal c.args.n))
+pub put_key-at-requires : goal.put_key-at-requires
+put_key-at-requires c = omega (arith, line_long c.args.key.now (decimal c.args.n))
 
-pub slice-bounds-put-number-count : goal.slice-bounds-put-number-count
-slice-bounds-put-number-count c = omega (arith, line_long c.args.key.now (decimal c.args.n))
+pub slice_bounds-put_number-count : goal.slice_bounds-put_number-count
+slice_bounds-put_number-count c = omega (arith, line_long c.args.key.now (decimal c.args.n))
 
-pub slice-bounds-put-number-start : goal.slice-bounds-put-number-start
-slice-bounds-put-number-start c = omega (arith, line_long c.args.key.now (decimal c.args.n))
+pub slice_bounds-put_number-start : goal.slice_bounds-put_number-start
+slice_bounds-put_number-start c = omega (arith, line_long c.args.key.now (decimal c.args.n))
 
-pub put-number-requires : goal.put-number-requires
-put-number-requires c = omega (arith, line_long c.args.key.now (decimal c.args.n), rest_long c.put-key-at.new.text c.put-key-at.result)
+pub put_number-requires : goal.put_number-requires
+put_number-requires c = omega (arith, line_long c.args.key.now (decimal c.args.n), rest_long c.put_key-at.new.text c.put_key-at.result)
 
-pub overflow-add-end : goal.overflow-add-end
-overflow-add-end c = omega (arith, line_long c.args.key.now (decimal c.args.n))
+pub overflow_add-end : goal.overflow_add-end
+overflow_add-end c = omega (arith, line_long c.args.key.now (decimal c.args.n))
 
 pub bounds-text-end : goal.bounds-text-end
 bounds-text-end c =
     let long = line_long c.args.key.now (decimal c.args.n) in
-    omega (arith, put-long c.put-key-at.new.text c.put-number.new.text c.put-key-at.result (omega arith) c.put-number.auto.text)
+    omega (arith, put-long c.put_key-at.new.text c.put_number.new.text c.put_key-at.result (omega arith) c.put_number.auto.text)
 
-pub overflow-add-result : goal.overflow-add-result
-overflow-add-result c = omega (arith, line_long c.args.key.now (decimal c.args.n))
+pub overflow_add-result : goal.overflow_add-result
+overflow_add-result c = omega (arith, line_long c.args.key.now (decimal c.args.n))
 
 pub returns : goal.returns
 returns c =
@@ -31,5 +31,5 @@ returns c =
     let body = decimal c.args.n in
     record {
       count = omega (arith, line_long key body);
-      text = line_put key body c.args.text.now c.put-key-at.new.text c.put-number.new.text c.put-key-at.result c.put-number.result c.put-key-at.ensures.count c.put-number.ensures.count c.requires c.put-key-at.ensures.text c.put-number.ensures.text;
+      text = line_put key body c.args.text.now c.put_key-at.new.text c.put_number.new.text c.put_key-at.result c.put_number.result c.put_key-at.ensures.count c.put_number.ensures.count c.requires c.put_key-at.ensures.text c.put_number.ensures.text;
     }

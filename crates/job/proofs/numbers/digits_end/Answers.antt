@@ -26,10 +26,10 @@ other : (bs : List ℕ) (end : ℕ) → end < length bs → IsOutOfRange 48 57 (
 other bs end lt (inl below) = subst Ends (sym (drop_more bs end 0 lt)) (λ low high. omega arith)
 other bs end lt (inr above) = subst Ends (sym (drop_more bs end 0 lt)) (λ low high. omega arith)
 
-pub returns-else-is-ascii-digit : goal.returns-else-is-ascii-digit
-returns-else-is-ascii-digit c =
+pub returns-else-is_ascii_digit : goal.returns-else-is_ascii_digit
+returns-else-is_ascii_digit c =
     let inv = c.loop-end.invariant in
-    record { behind = inv.0; within = inv.1; digits = inv.2; ends = other c.args.bytes.now c.loop-end.end (omega arith) c.if-is-ascii-digit.ensures.cases }
+    record { behind = inv.0; within = inv.1; digits = inv.2; ends = other c.args.bytes.now c.loop-end.end (omega arith) c.if-is_ascii_digit.ensures.cases }
 
 pub returns-after-loop-end : goal.returns-after-loop-end
 returns-after-loop-end c =

@@ -18,4 +18,4 @@ pub returns-then-at-bytes : goal.returns-then-at-bytes
 returns-then-at-bytes c =
     let bs = c.args.bytes.now in
     let at = c.args.at in
-    told bs c.args.key.now at c.if-at-bytes.true (take (length bs - at) (drop at bs)) (take_rest bs at) c.starts-with.result c.starts-with.ensures.bound c.starts-with.ensures.value
+    told bs c.args.key.now at c.if-at-bytes.true (take (length bs - at) (drop at bs)) (take_rest bs at) c.starts_with.result c.starts_with.ensures.bound c.starts_with.ensures.value

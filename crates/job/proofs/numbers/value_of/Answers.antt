@@ -11,14 +11,14 @@ use Rattle.job.proofs.numbers.value_of.Goals as goal
 small : (ds : List ℕ) (i : ℕ) → length ds ≤ 5 → AllDigits 10 ds → digits_value 10 (take i ds) < 100000
 small ds i few all = digits_value_short own (take i ds) 5 (front_digits i ds all) (simp length-take (omega arith))
 
-pub overflow-mul-value : goal.overflow-mul-value
-overflow-mul-value c = omega (arith, c.loop-digit.invariant, small c.args.digits.now c.loop-digit.digit-index c.requires.few c.requires.all)
+pub overflow_mul-value : goal.overflow_mul-value
+overflow_mul-value c = omega (arith, c.loop-digit.invariant, small c.args.digits.now c.loop-digit.digit-index c.requires.few c.requires.all)
 
-pub overflow-sub-digit : goal.overflow-sub-digit
-overflow-sub-digit c = (digit_at c.args.digits.now c.loop-digit.digit-index c.requires.all c.loop-digit-test.true).0
+pub overflow_sub-digit : goal.overflow_sub-digit
+overflow_sub-digit c = (digit_at c.args.digits.now c.loop-digit.digit-index c.requires.all c.loop-digit-test.true).0
 
-pub overflow-add-value : goal.overflow-add-value
-overflow-add-value c = omega (arith, c.loop-digit.invariant, small c.args.digits.now c.loop-digit.digit-index c.requires.few c.requires.all, c.type-inv.digits c.loop-digit.digit-index)
+pub overflow-add_value : goal.overflow-add_value
+overflow-add_value c = omega (arith, c.loop-digit.invariant, small c.args.digits.now c.loop-digit.digit-index c.requires.few c.requires.all, c.type_inv.digits c.loop-digit.digit-index)
 
 pub loop-digit-preserved : goal.loop-digit-preserved
 loop-digit-preserved c =

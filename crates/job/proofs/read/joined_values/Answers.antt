@@ -12,10 +12,10 @@ with_number : (bytes done : List ℕ) (start here v end : ℕ) → drop start by
     → drop start bytes ≡ commas done ++ (decimal v ++ drop end bytes)
 with_number bytes done start here v end text n = text ∙ ap (λ l. commas done ++ l) n.text
 
-pub returns-in-default : goal.returns-in-default
-returns-in-default c =
+pub returns-in_default : goal.returns-in_default
+returns-in_default c =
     record {
-      values = λ n ns rest short e. no_next (values_of c.loop-n.job) (drop c.loop-n.here c.args.bytes.now) c.loop-n.invariant.2 c.in-default.ensures n ns rest short (sym c.loop-n.invariant.3 ∙ e);
+      values = λ n ns rest short e. no_next (values_of c.loop-n.job) (drop c.loop-n.here c.args.bytes.now) c.loop-n.invariant.2 c.in_default.ensures n ns rest short (sym c.loop-n.invariant.3 ∙ e);
       prime = c.loop-n.invariant.4;
       exponent = c.loop-n.invariant.5;
       few = c.loop-n.invariant.1;
@@ -39,9 +39,9 @@ returns-then-byte-eq10 c =
     let n = c.in-Some.ensures in
     let F : List ℕ → Type 0 = λ l. ValuesAt c.args.bytes.now c.args.start l (c.in-Some.n.end + 1) in
     record {
-      values = subst F (sym c.add-value.ensures.values) (ended c.args.bytes.now (values_of c.loop-n.job) c.args.start c.loop-n.here c.in-Some.n.value c.in-Some.n.end (omega arith) c.loop-n.invariant.2 c.loop-n.invariant.3 n (omega arith));
-      prime = c.add-value.ensures.prime ∙ c.loop-n.invariant.4;
-      exponent = c.add-value.ensures.exponent ∙ c.loop-n.invariant.5;
+      values = subst F (sym c.add_value.ensures.values) (ended c.args.bytes.now (values_of c.loop-n.job) c.args.start c.loop-n.here c.in-Some.n.value c.in-Some.n.end (omega arith) c.loop-n.invariant.2 c.loop-n.invariant.3 n (omega arith));
+      prime = c.add_value.ensures.prime ∙ c.loop-n.invariant.4;
+      exponent = c.add_value.ensures.exponent ∙ c.loop-n.invariant.5;
       few = omega arith;
     }
 
@@ -59,8 +59,8 @@ returns-then-byte-ne44 c =
     let n = c.in-Some.ensures in
     record {
       values = broken c.args.bytes.now (values_of c.loop-n.job) c.args.start c.loop-n.here c.in-Some.n.value c.in-Some.n.end c.loop-n.invariant.2 c.loop-n.invariant.3 n (λ same. c.if-byte-eq10.false (omega arith)) (λ same. c.if-byte-ne44.true (omega arith));
-      prime = c.add-value.ensures.prime ∙ c.loop-n.invariant.4;
-      exponent = c.add-value.ensures.exponent ∙ c.loop-n.invariant.5;
+      prime = c.add_value.ensures.prime ∙ c.loop-n.invariant.4;
+      exponent = c.add_value.ensures.exponent ∙ c.loop-n.invariant.5;
       few = omega arith;
     }
 
@@ -75,11 +75,11 @@ loop-n-preserved c =
     let n = c.in-Some.ensures in
     let All : List ℕ → Type 0 = λ l. AllShort l in
     let Text : List ℕ → Type 0 = λ l. drop c.args.start c.args.bytes.now ≡ commas l ++ drop (c.in-Some.n.end + 1) c.args.bytes.now in
-    let pushed = sym c.add-value.ensures.values in (
+    let pushed = sym c.add_value.ensures.values in (
       omega arith,
       omega arith,
       subst All pushed (short-push (values_of c.loop-n.job) c.in-Some.n.value c.loop-n.invariant.2 n.short),
       subst Text pushed (goes_on c.args.bytes.now (values_of c.loop-n.job) c.args.start c.loop-n.here c.in-Some.n.value c.in-Some.n.end c.loop-n.invariant.3 n (omega arith)),
-      c.add-value.ensures.prime ∙ c.loop-n.invariant.4,
-      c.add-value.ensures.exponent ∙ c.loop-n.invariant.5,
+      c.add_value.ensures.prime ∙ c.loop-n.invariant.4,
+      c.add_value.ensures.exponent ∙ c.loop-n.invariant.5,
     )

@@ -9,14 +9,14 @@ use Rattle.job.proofs.read.read.Goals as goal
 pub returns-then-bytes-gt-BYTES : goal.returns-then-bytes-gt-BYTES
 returns-then-bytes-gt-BYTES c = too_long c.if-bytes-gt-BYTES.true
 
-pub returns-in-default : goal.returns-in-default
-returns-in-default c = no_prime c.if-bytes-gt-BYTES.false (λ first. c.in-default.ensures first.0 first.1 first.2 first.3)
+pub returns-in_default : goal.returns-in_default
+returns-in_default c = no_prime c.if-bytes-gt-BYTES.false (λ first. c.in_default.ensures first.0 first.1 first.2 first.3)
 
 second_bad : (bytes : List ℕ) (p at : ℕ) → length bytes ≤ 4096 → LineAt bytes (codes "prime=") 0 p at → NoLine (drop at bytes) (codes "exponent=") → IsBadLine bytes 2
 second_bad bytes p at few first none = no_exponent few (p, drop at bytes, first.short, first.text) (lacks_exponent bytes p (drop at bytes) first.short first.text none)
 
-pub returns-in-default-number-line : goal.returns-in-default-number-line
-returns-in-default-number-line c = second_bad c.args.bytes.now c.in-Some.prime.value c.in-Some.prime.end c.if-bytes-gt-BYTES.false c.in-Some.ensures c.in-default-number-line.ensures
+pub returns-in_default-number_line : goal.returns-in_default-number_line
+returns-in_default-number_line c = second_bad c.args.bytes.now c.in-Some.prime.value c.in-Some.prime.end c.if-bytes-gt-BYTES.false c.in-Some.ensures c.in_default-number_line.ensures
 
 -- the text of two lines, and of three
 two : (bytes : List ℕ) (p e at next : ℕ) → LineAt bytes (codes "prime=") 0 p at → LineAt bytes (codes "exponent=") at e next → bytes ≡ prime_line p ++ (exponent_line e ++ drop next bytes)
@@ -31,10 +31,10 @@ third_bad bytes p e at next few first second none =
     let text = two bytes p e at next first second in
     no_values few (p, e, drop next bytes, first.short, second.short, text) (lacks_values bytes p e (drop next bytes) first.short second.short text none)
 
-pub returns-in-default-values-line : goal.returns-in-default-values-line
-returns-in-default-values-line c =
-    third_bad c.args.bytes.now c.in-Some.prime.value c.in-Some-number-line.exponent.value c.in-Some.prime.end c.in-Some-number-line.exponent.end c.if-bytes-gt-BYTES.false
-    c.in-Some.ensures c.in-Some-number-line.ensures c.in-default-values-line.ensures.values
+pub returns-in_default-values_line : goal.returns-in_default-values_line
+returns-in_default-values_line c =
+    third_bad c.args.bytes.now c.in-Some.prime.value c.in-Some-number_line.exponent.value c.in-Some.prime.end c.in-Some-number_line.exponent.end c.if-bytes-gt-BYTES.false
+    c.in-Some.ensures c.in-Some-number_line.ensures c.in_default-values_line.ensures.values
 
 fourth_bad : (bytes : List ℕ) (p e at next : ℕ) (vs : List ℕ) (end : ℕ) → length bytes ≤ 4096 → LineAt bytes (codes "prime=") 0 p at → LineAt bytes (codes "exponent=") at e next
     → ListAt bytes (codes "values=") next vs end → end < length bytes → IsBadLine bytes 4
@@ -45,8 +45,8 @@ fourth_bad bytes p e at next vs end few first second third more =
 
 pub returns-then-end-bytes : goal.returns-then-end-bytes
 returns-then-end-bytes c =
-    fourth_bad c.args.bytes.now c.in-Some.prime.value c.in-Some-number-line.exponent.value c.in-Some.prime.end c.in-Some-number-line.exponent.end (values_of c.values_line.new.job) c.in-Some-values-line.end c.if-bytes-gt-BYTES.false
-    c.in-Some.ensures c.in-Some-number-line.ensures c.in-Some-values-line.ensures.values c.if-end-bytes.true
+    fourth_bad c.args.bytes.now c.in-Some.prime.value c.in-Some-number_line.exponent.value c.in-Some.prime.end c.in-Some-number_line.exponent.end (values_of c.values_line.new.job) c.in-Some-values_line.end c.if-bytes-gt-BYTES.false
+    c.in-Some.ensures c.in-Some-number_line.ensures c.in-Some-values_line.ensures.values c.if-end-bytes.true
 
 said : (bytes : List ℕ) (p e at next : ℕ) (vs : List ℕ) (end : ℕ) → length bytes ≤ 4096 → LineAt bytes (codes "prime=") 0 p at → LineAt bytes (codes "exponent=") at e next
     → ListAt bytes (codes "values=") next vs end → length bytes ≤ end → (q f : ℕ) → q ≡ p → f ≡ e → Says bytes q f vs
@@ -61,8 +61,8 @@ said bytes p e at next vs end few first second third all q f same same' =
 
 pub returns : goal.returns
 returns c =
-    let read = c.in-Some-values-line.ensures in (
-      said c.args.bytes.now c.in-Some.prime.value c.in-Some-number-line.exponent.value c.in-Some.prime.end c.in-Some-number-line.exponent.end (values_of c.values_line.new.job) c.in-Some-values-line.end c.if-bytes-gt-BYTES.false
-          c.in-Some.ensures c.in-Some-number-line.ensures read.values c.if-end-bytes.false c.values_line.new.job.prime c.values_line.new.job.exponent read.prime read.exponent,
+    let read = c.in-Some-values_line.ensures in (
+      said c.args.bytes.now c.in-Some.prime.value c.in-Some-number_line.exponent.value c.in-Some.prime.end c.in-Some-number_line.exponent.end (values_of c.values_line.new.job) c.in-Some-values_line.end c.if-bytes-gt-BYTES.false
+          c.in-Some.ensures c.in-Some-number_line.ensures read.values c.if-end-bytes.false c.values_line.new.job.prime c.values_line.new.job.exponent read.prime read.exponent,
       read.few,
     )

@@ -19,9 +19,9 @@ no_key bytes key at some none ns rest short e =
     let long = length-drop at bytes in
     none (joined ns ++ 10 ∷ rest) (omega arith) text
 
-pub returns-then-not-has-key : goal.returns-then-not-has-key
-returns-then-not-has-key c =
-    record { values = no_key c.args.bytes.now (codes "values=") c.args.at (omega arith) c.if-not-has-key.ensures; prime = refl; exponent = refl; few = omega arith }
+pub returns-then-not-has_key : goal.returns-then-not-has_key
+returns-then-not-has_key c =
+    record { values = no_key c.args.bytes.now (codes "values=") c.args.at (omega arith) c.if-not-has_key.ensures; prime = refl; exponent = refl; few = omega arith }
 
 -- no values: the line ends behind its key
 empty : (bytes key : List ℕ) (at start : ℕ) → at ≤ start → drop at bytes ≡ key ++ drop start bytes → get_or bytes start 0 ≡ 10 → ListAt bytes key at [] (start + 1)
@@ -30,9 +30,9 @@ empty bytes key at start past text byte =
     let within = line.0 in
     record { short = tt; past = omega arith; within = omega arith; text = text ∙ ap (λ l. key ++ l) line.1 ∙ sym (line_text key [] (drop (start + 1) bytes)) }
 
-pub returns-then-byte-at-eq10 : goal.returns-then-byte-at-eq10
-returns-then-byte-at-eq10 c =
-    let found = c.if-not-has-key.ensures in
+pub returns-then-byte_at-eq10 : goal.returns-then-byte_at-eq10
+returns-then-byte_at-eq10 c =
+    let found = c.if-not-has_key.ensures in
     record { values = empty c.args.bytes.now (codes "values=") c.args.at (c.args.at + 7) (omega arith) found.1 (omega arith); prime = refl; exponent = refl; few = omega arith }
 
 -- what the numbers behind the key say of the line
@@ -51,10 +51,10 @@ whole bytes key at start (Some end) vs past text byte v =
 
 pub returns : goal.returns
 returns c =
-    let found = c.if-not-has-key.ensures in
+    let found = c.if-not-has_key.ensures in
     record {
-      values = whole c.args.bytes.now (codes "values=") c.args.at (c.args.at + 7) c.joined-values.result (values_of c.joined-values.new.job) (omega arith) found.1 (λ e. c.if-byte-at-eq10.false (omega arith)) c.joined-values.ensures.values;
-      prime = c.joined-values.ensures.prime;
-      exponent = c.joined-values.ensures.exponent;
-      few = c.joined-values.ensures.few;
+      values = whole c.args.bytes.now (codes "values=") c.args.at (c.args.at + 7) c.joined_values.result (values_of c.joined_values.new.job) (omega arith) found.1 (λ e. c.if-byte_at-eq10.false (omega arith)) c.joined_values.ensures.values;
+      prime = c.joined_values.ensures.prime;
+      exponent = c.joined_values.ensures.exponent;
+      few = c.joined_values.ensures.few;
     }

@@ -7,6 +7,6 @@ pub returns-in-Judged : goal.returns-in-Judged
 returns-in-Judged c =
     let same = sym c.in-Judged.is in
     record {
-      count = c.put-figures.ensures.count ∙ ap (λ (p : Page). length (page_text p)) same;
-      text = c.put-figures.ensures.text ∙ ap (λ (p : Page). page_text p ++ drop c.put-figures.result c.args.text.now) same;
+      count = c.put_figures.ensures.count ∙ ap (λ (p : Page). length (page_text p)) same;
+      text = c.put_figures.ensures.text ∙ ap (λ (p : Page). page_text p ++ drop c.put_figures.result c.args.text.now) same;
     }

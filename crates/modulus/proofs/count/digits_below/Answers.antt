@@ -8,8 +8,8 @@ few : (p e i : ℕ) → e ≤ 16 → open_digits p e i ≤ 16 * i
 few p e Prim.Native.Nat.zero h = omega arith
 few p e (suc i) h = omega (arith, few p e i h)
 
-pub overflow-add-digits : goal.overflow-add-digits
-overflow-add-digits c =
+pub overflow_add-digits : goal.overflow_add-digits
+overflow_add-digits c =
     let m = c.args.modulus.now in
     let top : greatest m.prime ≤ 16 = greatest-small m.prime (omega (arith, m.listed.0, m.listed.1)) in
     let small = few m.prime m.exponent c.loop-i.i (omega (arith, m.listed.1)) in

@@ -8,13 +8,13 @@ use Rattle.modulus.proofs.listed.open_places.Goals as goal
 early : (p e i r : ℕ) → Listed p e → r ≡ v p i → r < e → i < 52
 early p e i r listed is lt = below-52 p e i listed (omega arith)
 
-pub overflow-add-i : goal.overflow-add-i
-overflow-add-i c =
+pub overflow_add-i : goal.overflow_add-i
+overflow_add-i c =
     let small = early c.args.p c.args.e c.loop-reached.i c.loop-reached.reached c.requires c.loop-reached.invariant.0 c.loop-reached-test.true in
     record { fits = omega arith }
 
-pub overflow-add-reached : goal.overflow-add-reached
-overflow-add-reached c =
+pub overflow_add-reached : goal.overflow_add-reached
+overflow_add-reached c =
     let small = early c.args.p c.args.e c.loop-reached.i c.loop-reached.reached c.requires c.loop-reached.invariant.0 c.loop-reached-test.true in
     let part = c.split-reached.ensures.small in
     let bound : greatest c.args.p ≤ 16 = greatest-small c.args.p (omega (arith, c.requires.0, c.requires.1)) in

@@ -9,8 +9,8 @@ loop-init c = sym (pow-zero c.args.p)
 next : (p k x : ℕ) → x ≡ p ^ k → x * p ≡ p ^ (k + 1)
 next p k x h = ap (λ (n : ℕ). n * p) h ∙ rw (add-one, pow-suc)
 
-pub overflow-mul-value : goal.overflow-mul-value
-overflow-mul-value c =
+pub overflow_mul-value : goal.overflow_mul-value
+overflow_mul-value c =
     let same : c.loop.value * c.args.p ≡ c.args.p ^ (c.loop.counter + 1) = next c.args.p c.loop.counter c.loop.value c.loop.invariant in
     let small : c.args.p ^ (c.loop.counter + 1) ≤ 65536 = power_small c.args.p (c.loop.counter + 1) (omega arith) in
     record { fits = omega arith }

@@ -15,22 +15,22 @@ shared p k i g b e = e ∙ ap (λ (n : ℕ). p ^ n) b
 some : (p k g : ℕ) → 1 < p → g ≡ p ^ k → 0 < g
 some p k g above e = rw e (power_positive p k above)
 
-pub nonzero-rem-rest-2 : goal.nonzero-rem-rest-2
-nonzero-rem-rest-2 c =
+pub nonzero_rem-rest-2 : goal.nonzero_rem-rest-2
+nonzero_rem-rest-2 c =
     let m = c.args.modulus.now in
-    some m.prime c.factorial-part.result.exponent c.prime-power-shared.result (listed-prime m.prime m.exponent m.listed).above c.prime-power-shared.ensures
+    some m.prime c.factorial-part.result.exponent c.prime_power-shared.result (listed-prime m.prime m.exponent m.listed).above c.prime_power-shared.ensures
 
 pub returns-then-rest-shared-ne0 : goal.returns-then-rest-shared-ne0
 returns-then-rest-shared-ne0 c =
     let m = c.args.modulus.now in
     let k = c.factorial-part.ensures.exponent in
-    let g = shared m.prime c.factorial-part.result.exponent c.args.i c.prime-power-shared.result k c.prime-power-shared.ensures in
+    let g = shared m.prime c.factorial-part.result.exponent c.args.i c.prime_power-shared.result k c.prime_power-shared.ensures in
     never m.prime m.exponent m.value c.args.i (v m.prime c.args.i) c.args.rest (listed-prime m.prime m.exponent m.listed) m.power
     (omega (arith, c.factorial-part.ensures.below, k)) (omega arith)
-    (λ h. c.if-rest-shared-ne0.true (ap (λ (n : ℕ). (c.args.rest % n) % c.prime-power-shared.result) c.value-m.ensures.is ∙ ap (λ (n : ℕ). (c.args.rest % m.value) % n) g ∙ h))
+    (λ h. c.if-rest-shared-ne0.true (ap (λ (n : ℕ). (c.args.rest % n) % c.prime_power-shared.result) c.value-m.ensures.is ∙ ap (λ (n : ℕ). (c.args.rest % m.value) % n) g ∙ h))
 
-pub inverse-of-rest-inverse-requires : goal.inverse-of-rest-inverse-requires
-inverse-of-rest-inverse-requires c =
+pub inverse_of_rest-inverse-requires : goal.inverse_of_rest-inverse-requires
+inverse_of_rest-inverse-requires c =
     let m = c.args.modulus.now in
     let r = c.factorial-part.ensures.rest in
     let P = listed-prime m.prime m.exponent m.listed in
@@ -50,10 +50,10 @@ quotient-requires c =
     let m = c.args.modulus.now in
     let rest : c.args.rest % c.value-m.result < c.value-m.result = mod-lt c.args.rest (omega (arith, c.value-m.ensures.above)) in
     record {
-      some = some m.prime c.factorial-part.result.exponent c.prime-power-shared.result (listed-prime m.prime m.exponent m.listed).above c.prime-power-shared.ensures;
-      bounded = rw (bound m.prime m.exponent c.args.i c.factorial-part.result.exponent c.value-m.result c.prime-power-shared.result m.listed c.factorial-part.ensures.exponent c.factorial-part.ensures.below c.value-m.ensures.power c.prime-power-shared.ensures) (w-positive m.prime m.exponent c.args.i m.listed);
+      some = some m.prime c.factorial-part.result.exponent c.prime_power-shared.result (listed-prime m.prime m.exponent m.listed).above c.prime_power-shared.ensures;
+      bounded = rw (bound m.prime m.exponent c.args.i c.factorial-part.result.exponent c.value-m.result c.prime_power-shared.result m.listed c.factorial-part.ensures.exponent c.factorial-part.ensures.below c.value-m.ensures.power c.prime_power-shared.ensures) (w-positive m.prime m.exponent c.args.i m.listed);
       rest = omega (arith, rest, c.value-m.ensures.small);
-      inverse = omega (arith, c.inverse-of-rest-inverse.ensures.small, c.value-m.ensures.is, c.value-m.ensures.small);
+      inverse = omega (arith, c.inverse_of_rest-inverse.ensures.small, c.value-m.ensures.is, c.value-m.ensures.small);
     }
 
 pub returns : goal.returns
@@ -63,17 +63,17 @@ returns c =
     let e = m.exponent in
     let i = c.args.i in
     let n = m.value in
-    let s = c.inverse-of-rest-inverse.result in
+    let s = c.inverse_of_rest-inverse.result in
     let k = c.factorial-part.ensures.exponent in
-    let g = shared p c.factorial-part.result.exponent i c.prime-power-shared.result k c.prime-power-shared.ensures in
+    let g = shared p c.factorial-part.result.exponent i c.prime_power-shared.result k c.prime_power-shared.ensures in
     let same : c.quotient.result ≡ ((c.args.rest % n) / p ^ v p i * s) % w p e i =
     c.quotient.ensures
-    ∙ ap (λ (b : ℕ). ((c.args.rest % c.value-m.result) / c.prime-power-shared.result * s) % b)
-    (bound p e i c.factorial-part.result.exponent c.value-m.result c.prime-power-shared.result m.listed k c.factorial-part.ensures.below c.value-m.ensures.power c.prime-power-shared.ensures)
-    ∙ ap (λ (b : ℕ). ((c.args.rest % b) / c.prime-power-shared.result * s) % w p e i) c.value-m.ensures.is
+    ∙ ap (λ (b : ℕ). ((c.args.rest % c.value-m.result) / c.prime_power-shared.result * s) % b)
+    (bound p e i c.factorial-part.result.exponent c.value-m.result c.prime_power-shared.result m.listed k c.factorial-part.ensures.below c.value-m.ensures.power c.prime_power-shared.ensures)
+    ∙ ap (λ (b : ℕ). ((c.args.rest % b) / c.prime_power-shared.result * s) % w p e i) c.value-m.ensures.is
     ∙ ap (λ (b : ℕ). ((c.args.rest % n) / b * s) % w p e i) g in
     let even : (c.args.rest % n) % p ^ v p i ≡ 0 =
-    ap (λ (b : ℕ). (c.args.rest % n) % b) (sym g) ∙ ap (λ (b : ℕ). (c.args.rest % b) % c.prime-power-shared.result) (sym c.value-m.ensures.is) ∙ c.if-rest-shared-ne0.false in
+    ap (λ (b : ℕ). (c.args.rest % n) % b) (sym g) ∙ ap (λ (b : ℕ). (c.args.rest % b) % c.prime_power-shared.result) (sym c.value-m.ensures.is) ∙ c.if-rest-shared-ne0.false in
     let one : Cong n (pos (unit p i * s)) (pos 1) =
-    cong_from_mod n (unit p i * s) 1 (sym (mul_mod_left n (unit p i) s) ∙ ap (λ (b : ℕ). (b * s) % n) (sym c.factorial-part.ensures.rest) ∙ c.inverse-of-rest-inverse.ensures.one ∙ sym (mod-eq_of_lt (omega (arith, c.value-m.ensures.is, c.value-m.ensures.above)))) in
+    cong_from_mod n (unit p i * s) 1 (sym (mul_mod_left n (unit p i) s) ∙ ap (λ (b : ℕ). (b * s) % n) (sym c.factorial-part.ensures.rest) ∙ c.inverse_of_rest-inverse.ensures.one ∙ sym (mod-eq_of_lt (omega (arith, c.value-m.ensures.is, c.value-m.ensures.above)))) in
     (rw same (mod-lt ((c.args.rest % n) / p ^ v p i * s) (w-positive p e i m.listed)), ap (λ (b : ℕ). (b * factorial i) % n) same ∙ divides p e n i c.args.rest s (listed-prime p e m.listed) m.power (omega (arith, c.factorial-part.ensures.below, k)) even one)

@@ -14,16 +14,16 @@ loop-j-init c =
     let m = c.args.modulus.now in
     (refl, rw (unit_zero m.prime) (sym (mod-eq_of_lt (omega (arith, c.value-m.ensures.is, c.value-m.ensures.above)))))
 
-pub overflow-add-exponent : goal.overflow-add-exponent
-overflow-add-exponent c =
+pub overflow_add-exponent : goal.overflow_add-exponent
+overflow_add-exponent c =
     let m = c.args.modulus.now in
     let top : greatest m.prime ≤ 16 = greatest-small m.prime (omega (arith, m.listed.0, m.listed.1)) in
     let few : m.mu ≤ 52 = mu-small m.prime m.exponent m.mu m.listed m.least in
     let low : v m.prime c.loop-j.j < m.exponent = m.least.1 c.loop-j.j (omega (arith, c.requires, c.loop-j-test.true)) in
     record { fits = omega (arith, c.loop-j.invariant.0, c.split-part.ensures.small, m.listed.1, c.requires, c.loop-j-test.true) }
 
-pub overflow-mul-rest : goal.overflow-mul-rest
-overflow-mul-rest c =
+pub overflow_mul-rest : goal.overflow_mul-rest
+overflow_mul-rest c =
     let m = c.args.modulus.now in
     let n = c.value-m.result in
     let some : 0 < n = omega (arith, c.value-m.ensures.above) in

@@ -16,7 +16,7 @@ first p e u r le above one =
 pub loop-right-init : goal.loop-right-init
 loop-right-init c =
     let m = c.args.modulus.now in
-    let inv = c.inverse-modulo-prime-r in
+    let inv = c.inverse_modulo_prime-r in
     let least : m.prime ^ 1 ≤ m.prime ^ m.exponent = pow-le-pow_right (omega (arith, c.prime.ensures)) m.listed.0 in
     let one : (c.args.u * inv.result) % m.prime ≡ 1 = ap (λ (p : ℕ). (c.args.u * inv.result) % p) (sym c.prime.ensures.is) ∙ inv.ensures.one in
     (omega (arith, inv.ensures.small, c.prime.ensures.is, m.power, least, power_one m.prime), omega arith, omega arith, first m.prime m.exponent c.args.u inv.result m.listed.0 (omega (arith, c.prime.ensures)) one)

@@ -21,7 +21,7 @@ again m i steps readable within few len before marks test =
 pub loop-i-preserved : goal.loop-i-preserved
 loop-i-preserved c =
     let inv = c.loop-i.invariant in
-    again c.args.m c.loop-i.i c.args.steps.now c.loop-i.readable (omega arith) (omega arith) inv.0 inv.2 inv.3 (sym c.is-good.ensures ∙ c.if-not-is-good.false)
+    again c.args.m c.loop-i.i c.args.steps.now c.loop-i.readable (omega arith) (omega arith) inv.0 inv.2 inv.3 (sym c.is_good.ensures ∙ c.if-not-is_good.false)
 
 pub returns : goal.returns
 returns c =

@@ -14,8 +14,8 @@ loop-s-preserved c =
     let i = c.loop-s.s-index in
     let inv = c.loop-s.invariant in
     let tray : (step_at steps i).to < 256 = search rules in
-    let more = depth-more c.args.multiply c.args.scale i c.depth-at-here.result c.loop-s.greatest _ steps c.loop-s.depths c.loop-s-test.true c.requires.weights inv.0 tray inv.1 c.depth-at-here.ensures inv.2 in
-    (more.0, more.1, subst (λ (n : ℕ). depth_from c.args.multiply c.args.scale (set c.loop-s.depths (step_at steps i).to c.depth-at-here.result) n (drop (i + 1) steps) ≡ depth_of c.args.multiply c.args.scale steps) (sym c.max-greatest.ensures) more.2)
+    let more = depth-more c.args.multiply c.args.scale i c.depth_at-here.result c.loop-s.greatest _ steps c.loop-s.depths c.loop-s-test.true c.requires.weights inv.0 tray inv.1 c.depth_at-here.ensures inv.2 in
+    (more.0, more.1, subst (λ (n : ℕ). depth_from c.args.multiply c.args.scale (set c.loop-s.depths (step_at steps i).to c.depth_at-here.result) n (drop (i + 1) steps) ≡ depth_of c.args.multiply c.args.scale steps) (sym c.max-greatest.ensures) more.2)
 
 pub returns : goal.returns
 returns c =

@@ -12,20 +12,20 @@ ladder-requires c =
     let m = c.args.fit.now.modulus in
     let few = reduced-few m.prime m.exponent m.listed c.form-coefficients.result c.form-coefficients.ensures.reduced in
     let room : length c.form-coefficients.result ≡ 52 = search rules in
-    record { above = c.value.ensures.above; small = c.value.ensures.small; few = omega (arith, few, c.used-places-used.ensures); within = omega (arith, few, c.used-places-used.ensures) }
+    record { above = c.value.ensures.above; small = c.value.ensures.small; few = omega (arith, few, c.used_places-used.ensures); within = omega (arith, few, c.used_places-used.ensures) }
 
-pub in-powers-list-requires : goal.in-powers-list-requires
-in-powers-list-requires c =
+pub in_powers-list-requires : goal.in_powers-list-requires
+in_powers-list-requires c =
     let m = c.args.fit.now.modulus in
     let cs = c.form-coefficients.result in
     let few = reduced-few m.prime m.exponent m.listed cs c.form-coefficients.ensures.reduced in
     let room : length cs ≡ 52 = search rules in
-    record { within = omega (arith, few, c.used-places-used.ensures); few = omega (arith, few, c.used-places-used.ensures); clear = λ i le. form_length-past cs i (omega (arith, le, c.used-places-used.ensures)) }
+    record { within = omega (arith, few, c.used_places-used.ensures); few = omega (arith, few, c.used_places-used.ensures); clear = λ i le. form_length-past cs i (omega (arith, le, c.used_places-used.ensures)) }
 
 pub block-requires : goal.block-requires
 block-requires c =
     let m = c.args.fit.now.modulus in
     let few = reduced-few m.prime m.exponent m.listed c.form-coefficients.result c.form-coefficients.ensures.reduced in
     let sized = subst (λ (k : Kind). Sized k) c.in-Block.is c.requires in
-    let room : length c.in-powers-list.result ≡ 64 = search rules in
-    record { some = sized.0; few = sized.1; most = omega (arith, few, c.used-places-used.ensures); long = omega arith }
+    let room : length c.in_powers-list.result ≡ 64 = search rules in
+    record { some = sized.0; few = sized.1; most = omega (arith, few, c.used_places-used.ensures); long = omega arith }

@@ -31,8 +31,8 @@ pub returns : goal.returns
 returns c =
     let f = c.args.fit.now in
     let m = f.modulus in
-    let steps = listed c.lay-out-draft.result in
-    handed m.prime m.exponent (stands f) c.args.kind steps _ _ c.hand-out.result
+    let steps = listed c.lay_out-draft.result in
+    handed m.prime m.exponent (stands f) c.args.kind steps _ _ c.hand_out.result
     (plan-issued m.prime m.exponent m.listed (stands f) c.args.kind steps (λ i _. residues (power_of m) f.coefficients f.count (omega (arith, above_one m.prime m.exponent m.listed)) i)
-    c.lay-out-draft.ensures.planned)
-    c.hand-out.ensures
+    c.lay_out-draft.ensures.planned)
+    c.hand_out.ensures

@@ -17,8 +17,8 @@ everywhere a b len h k = go (dec_lt k (length a))
 pub returns : goal.returns
 returns c =
     let m = c.args.modulus.now in
-    let a = c.reduced-form-a.result in
-    let b = c.reduced-form-b.result in
+    let a = c.reduced_form-a.result in
+    let b = c.reduced_form-b.result in
     let len : length b ≡ length a = search rules in
-    let told = told_apart m.prime m.exponent m.listed (ints c.args.first.now) (ints c.args.second.now) a b c.reduced-form-a.ensures.form c.reduced-form-b.ensures.form in
+    let told = told_apart m.prime m.exponent m.listed (ints c.args.first.now) (ints c.args.second.now) a b c.reduced_form-a.ensures.form c.reduced_form-b.ensures.form in
     record { yes = λ t. told.1.1 (everywhere a b len (c.equal.ensures.yes t)); no = λ h. c.equal.ensures.no (told.1.0 h); told = told_apart }

@@ -13,9 +13,9 @@ loop-c-init c = (sym (zero-mod c.args.m), sym (mod-eq_of_lt c.requires.above), o
 small : (a b n : ℕ) → a ≡ b % n → 1 < n → n ≤ 65536 → a ≤ 65535
 small a b n e h k = omega (arith, mod-lt b (let some : 0 < n = omega arith in some))
 
-pub overflow-mul-sum : goal.overflow-mul-sum
-overflow-mul-sum c =
-    let element : c.from.result ≤ 65535 = omega (arith, c.from.ensures, (c.type-inv.coefficients c.loop-c.c-index).fits) in
+pub overflow_mul-sum : goal.overflow_mul-sum
+overflow_mul-sum c =
+    let element : c.from.result ≤ 65535 = omega (arith, c.from.ensures, (c.type_inv.coefficients c.loop-c.c-index).fits) in
     let product = small c.loop-c.product (falls c.args.x c.loop-c.c-index) c.args.m c.loop-c.invariant.1 c.requires.above c.requires.small in
     record { fits = omega (arith, product_small c.from.result c.loop-c.product element product) }
 
@@ -34,7 +34,7 @@ pub loop-c-preserved : goal.loop-c-preserved
 loop-c-preserved c =
     let inv = c.loop-c.invariant in
     let i = c.loop-c.c-index in
-    (sum_more c.args.coefficients.now c.args.x i c.args.m c.loop-c.sum c.loop-c.product c.from.result inv.0 inv.1 c.from.ensures, product_more c.args.x i c.args.m c.loop-c.product c.loop-c.factor inv.1 inv.2, omega (arith, c.saturating-sub-factor.ensures, inv.2))
+    (sum_more c.args.coefficients.now c.args.x i c.args.m c.loop-c.sum c.loop-c.product c.from.result inv.0 inv.1 c.from.ensures, product_more c.args.x i c.args.m c.loop-c.product c.loop-c.factor inv.1 inv.2, omega (arith, c.saturating_sub-factor.ensures, inv.2))
 
 pub returns : goal.returns
 returns c =

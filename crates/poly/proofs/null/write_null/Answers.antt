@@ -15,17 +15,17 @@ returns c =
     let mo = c.args.modulus.now in
     let m = c.value-m.result in
     let i = c.args.i in
-    let xs = c.falling-powers-falling.result in
-    let zs = c.add-scaled.new.sum in
+    let xs = c.falling_powers-falling.result in
+    let zs = c.add_scaled.new.sum in
     let b = w mo.prime mo.exponent i in
     let same : Cong m (pos (c.bound.result % m)) (pos b) = cong_trans (cong_sym (cong_mod m c.bound.result)) (cong_path m (ap pos c.bound.ensures)) in
-    let held : Holds m (null_at mo.prime mo.exponent i) (i + 1) zs = scaled-held m (i + 1) (c.bound.result % m) (pos b) (falling i) xs zs c.value-m.ensures.above (search rules) same c.falling-powers-falling.ensures (λ k lt. c.add-scaled.ensures k (search rules) ∙ ap (λ (a : ℕ). (a + c.bound.result % m * get_or xs k 0) % m) (zeros 65 k)) in
+    let held : Holds m (null_at mo.prime mo.exponent i) (i + 1) zs = scaled-held m (i + 1) (c.bound.result % m) (pos b) (falling i) xs zs c.value-m.ensures.above (search rules) same c.falling_powers-falling.ensures (λ k lt. c.add_scaled.ensures k (search rules) ∙ ap (λ (a : ℕ). (a + c.bound.result % m * get_or xs k 0) % m) (zeros 65 k)) in
     let whole : Holds mo.value (null_at mo.prime mo.exponent i) (i + 1) zs = subst (λ (n : ℕ). Holds n (null_at mo.prime mo.exponent i) (i + 1) zs) c.value-m.ensures.is held in
-    let front : Holds mo.value (null_at mo.prime mo.exponent i) (i + 1) (take (i + 1) c.copy-front.new.out) =
-    subst (λ (ys : List ℕ). Holds mo.value (null_at mo.prime mo.exponent i) (i + 1) ys) (sym c.copy-front.ensures.written) (held_front mo.value (null_at mo.prime mo.exponent i) (i + 1) zs whole) in
+    let front : Holds mo.value (null_at mo.prime mo.exponent i) (i + 1) (take (i + 1) c.copy_front.new.out) =
+    subst (λ (ys : List ℕ). Holds mo.value (null_at mo.prime mo.exponent i) (i + 1) ys) (sym c.copy_front.ensures.written) (held_front mo.value (null_at mo.prime mo.exponent i) (i + 1) zs whole) in
     record {
       written = front;
-      vanishes = subst (λ (n : ℕ). Null n (ints (take (i + 1) c.copy-front.new.out))) mo.power (held_null mo.value (null_at mo.prime mo.exponent i) (i + 1) (take (i + 1) c.copy-front.new.out) front (subst (λ (n : ℕ). Null n (null_at mo.prime mo.exponent i)) (sym mo.power) (null_at-null mo.prime mo.exponent mo.listed i)));
-      beyond = c.copy-front.ensures.beyond;
+      vanishes = subst (λ (n : ℕ). Null n (ints (take (i + 1) c.copy_front.new.out))) mo.power (held_null mo.value (null_at mo.prime mo.exponent i) (i + 1) (take (i + 1) c.copy_front.new.out) front (subst (λ (n : ℕ). Null n (null_at mo.prime mo.exponent i)) (sym mo.power) (null_at-null mo.prime mo.exponent mo.listed i)));
+      beyond = c.copy_front.ensures.beyond;
       span = span;
     }

@@ -12,8 +12,8 @@ loop-c-preserved c =
     let inv = c.loop-c.invariant in
     let cs = c.args.coefficients.now in
     let g : ℕ → ℤ = λ i. pos (get_or cs i 0) in
-    let next = sum-next c.args.m c.loop-c.i (get_or cs c.loop-c.c-index 0) g c.loop-c.sum c.loop-c.term c.add-scaled.new.sum c.requires.above (omega (arith, inv.0, inv.1)) (search rules) (ap (λ (n : ℕ). pos (get_or cs n 0)) inv.2) inv.3 inv.4 c.add-scaled.ensures in
-    (search rules, search rules, omega (arith, inv.2), next, c.next-falling.ensures)
+    let next = sum-next c.args.m c.loop-c.i (get_or cs c.loop-c.c-index 0) g c.loop-c.sum c.loop-c.term c.add_scaled.new.sum c.requires.above (omega (arith, inv.0, inv.1)) (search rules) (ap (λ (n : ℕ). pos (get_or cs n 0)) inv.2) inv.3 inv.4 c.add_scaled.ensures in
+    (search rules, search rules, omega (arith, inv.2), next, c.next_falling.ensures)
 
 pub returns : goal.returns
 returns c =

@@ -11,5 +11,5 @@ returns c =
     let m = c.args.m in
     let i = c.args.i in
     let some : 0 < m = omega (arith, c.requires.above) in
-    subst (λ (xs : List ℕ). Holds m (falling (i + 1)) (i + 1 + 1) xs) (sym c.shift-in.ensures)
+    subst (λ (xs : List ℕ). Holds m (falling (i + 1)) (i + 1 + 1) xs) (sym c.shift_in.ensures)
     (falling-next m i c.negative.result c.args.list.now c.requires.above (omega (arith, c.requires.room)) (cong_trans (cong_path m (ap pos c.negative.ensures)) (cong_minus m i some)) c.requires.holds)

@@ -16,7 +16,7 @@ loop-i-init c =
 pub loop-i-preserved : goal.loop-i-preserved
 loop-i-preserved c =
     let inv = c.loop-i.invariant in
-    let walk = newton_walk c.args.m c.loop-i.i c.args.list.now c.loop-i.newton c.shift-in.new.list (omega arith) (omega arith) (omega (arith, inv.0, c.requires.taken.few)) inv.1 inv.2 c.shift-in.ensures in
+    let walk = newton_walk c.args.m c.loop-i.i c.args.list.now c.loop-i.newton c.shift_in.new.list (omega arith) (omega arith) (omega (arith, inv.0, c.requires.taken.few)) inv.1 inv.2 c.shift_in.ensures in
     (search rules, walk.0, walk.1)
 
 pub returns : goal.returns

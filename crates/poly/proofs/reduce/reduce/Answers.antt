@@ -6,24 +6,24 @@ use Rattle.modulus.proofs.Bounds.{at_modulus}
 use Rattle.poly.specs.Powers.{NoList, NoReduction, Taken}
 use Rattle.poly.proofs.reduce.reduce.Goals as goal
 
-pub returns-in-err-modulus : goal.returns-in-err-modulus
-returns-in-err-modulus c =
-    let r = err_from_is_err_and c.from-residual.result c.from-residual.ensures.1 in
-    let off = c.in-err-modulus.ensures in
+pub returns-in_err-modulus : goal.returns-in_err-modulus
+returns-in_err-modulus c =
+    let r = err_from_is_err_and c.from_residual.result c.from_residual.ensures.1 in
+    let off = c.in_err-modulus.ensures in
     rw (r.1, r.2) (subst (λ (f : Refusal). NoReduction c.args.p c.args.e c.args.list.now (length c.args.out.now) f) (sym off.1) (NoReduction.off_List off.0), refl)
 
-pub returns-in-err-check-list : goal.returns-in-err-check-list
-returns-in-err-check-list c =
-    let r = err_from_is_err_and c.from-residual-in-err-check-list.result c.from-residual-in-err-check-list.ensures.1 in
-    let made = c.in-ok-modulus.ensures in
-    let bad = c.in-err-check-list.ensures in
+pub returns-in_err-check_list : goal.returns-in_err-check_list
+returns-in_err-check_list c =
+    let r = err_from_is_err_and c.from_residual-in_err-check_list.result c.from_residual-in_err-check_list.ensures.1 in
+    let made = c.in_ok-modulus.ensures in
+    let bad = c.in_err-check_list.ensures in
     let xs = c.args.list.now in
-    rw (r.1, r.2) (NoReduction.bad_list made.0 (at_modulus (λ (m q k : ℕ). NoList m xs c.in-err-check-list.field-0.0) c.in-ok-modulus.modulus c.args.p c.args.e made.1 made.2 bad), refl)
+    rw (r.1, r.2) (NoReduction.bad_list made.0 (at_modulus (λ (m q k : ℕ). NoList m xs c.in_err-check_list.field-0.0) c.in_ok-modulus.modulus c.args.p c.args.e made.1 made.2 bad), refl)
 
 pub returns-then-out-needed : goal.returns-then-out-needed
 returns-then-out-needed c =
-    let made = c.in-ok-modulus.ensures in
+    let made = c.in_ok-modulus.ensures in
     let xs = c.args.list.now in
-    let taken = at_modulus (λ (m q k : ℕ). Taken m xs) c.in-ok-modulus.modulus c.args.p c.args.e made.1 made.2 c.in-ok-check-list.ensures in
-    let mu = at_modulus (λ (m q k : ℕ). Mu q k c.mu-needed.result) c.in-ok-modulus.modulus c.args.p c.args.e made.1 made.2 c.mu-needed.ensures.least in
+    let taken = at_modulus (λ (m q k : ℕ). Taken m xs) c.in_ok-modulus.modulus c.args.p c.args.e made.1 made.2 c.in_ok-check_list.ensures in
+    let mu = at_modulus (λ (m q k : ℕ). Mu q k c.mu-needed.result) c.in_ok-modulus.modulus c.args.p c.args.e made.1 made.2 c.mu-needed.ensures.least in
     (NoReduction.no_room made.0 taken mu (omega arith), refl)

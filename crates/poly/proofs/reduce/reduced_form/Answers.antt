@@ -13,6 +13,6 @@ returns c =
     let inv = c.loop-i.invariant in
     let all : c.loop-i.i ≡ m.mu = omega (arith, c.mu-i-end.ensures.is) in
     record {
-      form = reduces_remainders m.prime m.exponent c.value.result m.mu m.listed c.value.ensures.power m.least (ints c.args.list.now) c.newton-form-newton.result c.loop-i.reduced c.newton-form-newton.ensures (λ k lt. inv.1 k (omega arith)) (λ k le. inv.2 k (omega arith));
+      form = reduces_remainders m.prime m.exponent c.value.result m.mu m.listed c.value.ensures.power m.least (ints c.args.list.now) c.newton_form-newton.result c.loop-i.reduced c.newton_form-newton.ensures (λ k lt. inv.1 k (omega arith)) (λ k le. inv.2 k (omega arith));
       clear = λ k le. inv.2 k (omega arith);
     }

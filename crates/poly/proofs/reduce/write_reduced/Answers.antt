@@ -6,12 +6,12 @@ use Rattle.poly.proofs.reduce.write_reduced.Goals as goal
 pub returns : goal.returns
 returns c =
     let m = c.args.modulus.now in
-    let xs = c.reduced-form-reduced.result in
+    let xs = c.reduced_form-reduced.result in
     let f = ints c.args.list.now in
     let is = c.mu.ensures.is in
-    let written : take m.mu c.copy-front.new.out ≡ take m.mu xs = subst (λ (n : ℕ). take n c.copy-front.new.out ≡ take n xs) is c.copy-front.ensures.written in
+    let written : take m.mu c.copy_front.new.out ≡ take m.mu xs = subst (λ (n : ℕ). take n c.copy_front.new.out ≡ take n xs) is c.copy_front.ensures.written in
     record {
-      written = subst (λ (ys : List ℕ). Reduces m.prime m.exponent f ys) (sym written) (reduces_front m.prime m.exponent f xs m.mu c.reduced-form-reduced.ensures.form c.reduced-form-reduced.ensures.clear);
-      beyond = subst (λ (n : ℕ). drop n c.copy-front.new.out ≡ drop n c.args.out.now) is c.copy-front.ensures.beyond;
+      written = subst (λ (ys : List ℕ). Reduces m.prime m.exponent f ys) (sym written) (reduces_front m.prime m.exponent f xs m.mu c.reduced_form-reduced.ensures.form c.reduced_form-reduced.ensures.clear);
+      beyond = subst (λ (n : ℕ). drop n c.copy_front.new.out ≡ drop n c.args.out.now) is c.copy_front.ensures.beyond;
       back = gives_back;
     }

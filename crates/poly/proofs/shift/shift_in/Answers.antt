@@ -10,20 +10,20 @@ factor_small t t₀ by i n is lt all =
     let more : by * (i + 1) ≤ by * n = mul-le-mul_left by (omega arith) in
     omega arith
 
-pub overflow-mul-c : goal.overflow-mul-c
-overflow-mul-c c =
+pub overflow_mul-c : goal.overflow_mul-c
+overflow_mul-c c =
     let old : c.from-old.result ≤ 65535 = search rules in
     let t = factor_small c.loop-c.t c.args.t c.args.by c.loop-c.c-index (length c.args.list.now) c.loop-c.invariant.2 c.loop-c-test.true c.requires.factors in
     record { fits = omega (arith, product_small c.loop-c.t c.from-old.result (omega arith) old) }
 
-pub overflow-add-c : goal.overflow-add-c
-overflow-add-c c =
+pub overflow_add-c : goal.overflow_add-c
+overflow_add-c c =
     let old : c.from-old.result ≤ 65535 = search rules in
     let t = factor_small c.loop-c.t c.args.t c.args.by c.loop-c.c-index (length c.args.list.now) c.loop-c.invariant.2 c.loop-c-test.true c.requires.factors in
     record { fits = omega (arith, c.loop-c.invariant.1, product_small c.loop-c.t c.from-old.result (omega arith) old) }
 
-pub overflow-add-t : goal.overflow-add-t
-overflow-add-t c =
+pub overflow_add-t : goal.overflow_add-t
+overflow_add-t c =
     let t = factor_small c.loop-c.t c.args.t c.args.by c.loop-c.c-index (length c.args.list.now) c.loop-c.invariant.2 c.loop-c-test.true c.requires.factors in
     record { fits = omega arith }
 

@@ -6,8 +6,8 @@ use Rattle.rack.specs.Runs.{Meaning, StuckAt, StuckStep, after_step, after_steps
 use Rattle.rack.proofs.Meant.{after_more, tray-within}
 use Rattle.rack.proofs.rack.do_steps.Goals as goal
 
-pub do-step-requires : goal.do-step-requires
-do-step-requires g c =
+pub do_step-requires : goal.do_step-requires
+do_step-requires g c =
     let steps = c.args.steps.now in
     let i = c.loop-i.i in
     let named = tray-within steps i c.loop-i-test.true in

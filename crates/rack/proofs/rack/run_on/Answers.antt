@@ -34,11 +34,11 @@ returns-in-Ok g c =
     let level = g.E.Element.level in
     let got = c.in-Ok.ensures in
     let base = c.args.base in
-    let last = c.last-tray.result in
-    ran c.args.modulus.now.value base (meanings lanes level c.args.trays.now) _ (meanings lanes level c.do-steps.new.trays) c.args.steps.now (meaning_of lanes level c.args.input) (meaning_of lanes level c.tray-at.result)
+    let last = c.last_tray.result in
+    ran c.args.modulus.now.value base (meanings lanes level c.args.trays.now) _ (meanings lanes level c.do_steps.new.trays) c.args.steps.now (meaning_of lanes level c.args.input) (meaning_of lanes level c.tray_at.result)
     (map_set (meaning_of lanes level) c.args.trays.now base c.args.input) got.0 got.1
-    (sym (tray_read lanes level c.do-steps.new.trays (base + last) c.tray-at.result (omega (arith, c.requires, c.last-tray.ensures.within, c.do-steps.auto.trays, length-set c.args.trays.now base c.args.input)) c.tray-at.ensures)
-    ∙ ap (λ (t : ℕ). tray (meanings lanes level c.do-steps.new.trays) (base + t)) c.last-tray.ensures.is)
+    (sym (tray_read lanes level c.do_steps.new.trays (base + last) c.tray_at.result (omega (arith, c.requires, c.last_tray.ensures.within, c.do_steps.auto.trays, length-set c.args.trays.now base c.args.input)) c.tray_at.ensures)
+    ∙ ap (λ (t : ℕ). tray (meanings lanes level c.do_steps.new.trays) (base + t)) c.last_tray.ensures.is)
 
 pub returns-in-Err : goal.returns-in-Err
 returns-in-Err g c =
@@ -48,6 +48,6 @@ returns-in-Err g c =
     let base = c.args.base in (
       c.in-Err.step,
       refl,
-      stops c.args.modulus.now.value base (meanings lanes level c.args.trays.now) _ (meanings lanes level c.do-steps.new.trays) c.args.steps.now (meaning_of lanes level c.args.input) c.in-Err.step
+      stops c.args.modulus.now.value base (meanings lanes level c.args.trays.now) _ (meanings lanes level c.do_steps.new.trays) c.args.steps.now (meaning_of lanes level c.args.input) c.in-Err.step
           (map_set (meaning_of lanes level) c.args.trays.now base c.args.input) got.0 got.1 got.2 got.3,
     )

@@ -4,11 +4,11 @@ use Rattle.rack.specs.Runs.{StuckStep, meanings}
 use Rattle.rack.proofs.Meant.{step_done, stuck_is}
 use Rattle.rack.proofs.step.do_step.Goals as goal
 
-pub returns-in-err-given : goal.returns-in-err-given
-returns-in-err-given g c =
-    let p = err_from_is_err_and c.from-residual.result c.from-residual.ensures.1 in
+pub returns-in_err-given : goal.returns-in_err-given
+returns-in_err-given g c =
+    let p = err_from_is_err_and c.from_residual.result c.from_residual.ensures.1 in
     let same = stuck_is g.E.Element.lanes g.E.Element.level c.args.base c.args.trays.now c.args.s c.index-trays-base.result c.index-trays-base-2.result c.requires.a c.requires.b c.index-trays-base.is c.index-trays-base-2.is in
-    rw p.1 (subst (λ (T : Type 0). T) same c.in-err-given.ensures, refl)
+    rw p.1 (subst (λ (T : Type 0). T) same c.in_err-given.ensures, refl)
 
 pub returns : goal.returns
 returns g c =
@@ -17,8 +17,8 @@ returns g c =
     let base = c.args.base in
     let a = c.index-trays-base.result in
     let b = c.index-trays-base-2.result in
-    let got = c.in-ok-given.ensures in
+    let got = c.in_ok-given.ensures in
     let same = stuck_is g.E.Element.lanes g.E.Element.level base xs s a b c.requires.a c.requires.b c.index-trays-base.is c.index-trays-base-2.is in (
       (λ stuck. got.0 (subst (λ (T : Type 0). T) (sym same) stuck)),
-      step_done g.E.Element.lanes g.E.Element.level c.args.modulus.now.value base xs s a b c.in-ok-given.given c.requires.a c.requires.b c.index-trays-base.is c.index-trays-base-2.is got.1,
+      step_done g.E.Element.lanes g.E.Element.level c.args.modulus.now.value base xs s a b c.in_ok-given.given c.requires.a c.requires.b c.index-trays-base.is c.index-trays-base-2.is got.1,
     )

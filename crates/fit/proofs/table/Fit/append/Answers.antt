@@ -6,8 +6,8 @@ use Rattle.fit.specs.declared.table.Fit.{Fit}
 use Rattle.fit.proofs.Tables.{set_here, set-reduced}
 use Rattle.fit.proofs.table.Fit.append.Goals as goal
 
-pub overflow-add-self : goal.overflow-add-self
-overflow-add-self c =
+pub overflow_add-self : goal.overflow_add-self
+overflow_add-self c =
     let m = c.args.self.now.modulus in
     record { fits = omega (arith, c.requires.room, power_small m.prime m.exponent m.listed.1) }
 
@@ -17,8 +17,8 @@ past f d len lt le =
     let m = f.modulus in
     omega (arith, w-past m.prime m.exponent m.mu f.count m.least (omega (arith, mu-small m.prime m.exponent m.mu m.listed m.least)))
 
-pub invariant-of-self : goal.invariant-of-self
-invariant-of-self c =
+pub invariant_of-self : goal.invariant_of-self
+invariant_of-self c =
     let f = c.args.self.now in
     let m = f.modulus in
     let d = c.args.coefficient in

@@ -3,11 +3,11 @@ use Rattle.fit.specs.Standing.{power_of}
 use Rattle.fit.proofs.Offers.{Grown, grown, offered, is-unfit}
 use Rattle.fit.proofs.table.Fit.fit_in.Goals as goal
 
-pub returns-in-default : goal.returns-in-default
-returns-in-default c =
+pub returns-in_default : goal.returns-in_default
+returns-in_default c =
     let f = c.args.self.now in
     let m = f.modulus in
-    record { modulus = refl; cases = (is-unfit f c.args.value (omega (arith, c.requires.room, m.power)) (omega (arith, c.requires.small, m.power)) c.in-default.ensures, refl) }
+    record { modulus = refl; cases = (is-unfit f c.args.value (omega (arith, c.requires.room, m.power)) (omega (arith, c.requires.small, m.power)) c.in_default.ensures, refl) }
 
 pub returns : goal.returns
 returns c =

@@ -7,8 +7,8 @@ use Rattle.fit.specs.Standing.{power_of}
 use Rattle.fit.proofs.Tables.{rest_to_sum, sum-to_rest}
 use Rattle.fit.proofs.table.Fit.next_coefficient.Goals as goal
 
-pub overflow-cast-result : goal.overflow-cast-result
-overflow-cast-result c =
+pub overflow_cast-result : goal.overflow_cast-result
+overflow_cast-result c =
     let m = c.args.self.now.modulus in
     record { fits = omega (arith, c.in-Some.ensures.0, w-small m.prime m.exponent c.args.self.now.count m.listed, power_small m.prime m.exponent m.listed.1) }
 
@@ -22,7 +22,7 @@ returns-in-Some c =
     let m = f.modulus in
     let got = c.in-Some.ensures in
     let n = c.in-Some.c * factorial f.count in
-    let rest = rest_is c.args.value c.value-m.result c.value-at-sum.result m.value (power_of m) (value_at f.coefficients f.count) c.value-m.ensures.power m.power c.value-at-sum.ensures in
+    let rest = rest_is c.args.value c.value-m.result c.value_at-sum.result m.value (power_of m) (value_at f.coefficients f.count) c.value-m.ensures.power m.power c.value_at-sum.ensures in
     let some : 0 < power_of m = omega (arith, c.value-m.ensures.above, c.value-m.ensures.power) in
     (got.0, rest_to_sum (power_of m) (value_at f.coefficients f.count) c.args.value n some (ap (λ (b : ℕ). n % b) (sym m.power) ∙ got.1 ∙ rest))
 
@@ -30,7 +30,7 @@ pub returns-in-None : goal.returns-in-None
 returns-in-None c =
     let f = c.args.self.now in
     let m = f.modulus in
-    let rest = rest_is c.args.value c.value-m.result c.value-at-sum.result m.value (power_of m) (value_at f.coefficients f.count) c.value-m.ensures.power m.power c.value-at-sum.ensures in
+    let rest = rest_is c.args.value c.value-m.result c.value_at-sum.result m.value (power_of m) (value_at f.coefficients f.count) c.value-m.ensures.power m.power c.value_at-sum.ensures in
     let some : 0 < power_of m = omega (arith, c.value-m.ensures.above, c.value-m.ensures.power) in
     no_fit m.prime m.exponent m.listed f.coefficients f.count c.args.value f.reduced f.clear
     (λ d h. c.in-None.ensures d (ap (λ (b : ℕ). (d * factorial f.count) % b) m.power ∙ sum-to_rest (power_of m) (value_at f.coefficients f.count) c.args.value (d * factorial f.count) some h ∙ sym rest))

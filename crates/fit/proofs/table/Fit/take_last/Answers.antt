@@ -9,21 +9,21 @@ use Rattle.fit.proofs.Offers.{shrunk}
 use Rattle.fit.proofs.Tables.{set_here, set-reduced}
 use Rattle.fit.proofs.table.Fit.take_last.Goals as goal
 
-pub overflow-cast-last : goal.overflow-cast-last
-overflow-cast-last c =
+pub overflow_cast-last : goal.overflow_cast-last
+overflow_cast-last c =
     let f = c.args.self.now in
     let m = f.modulus in
     record { fits = omega (arith, f.within, m.power, power_small m.prime m.exponent m.listed.1, c.requires) }
 
-pub overflow-cast-value : goal.overflow-cast-value
-overflow-cast-value c =
+pub overflow_cast-value : goal.overflow_cast-value
+overflow_cast-value c =
     let f = c.args.self.now in
     let m = f.modulus in
     let some : 0 < power_of m = omega (arith, above_one m.prime m.exponent m.listed) in
-    record { fits = omega (arith, c.value-at-value.ensures, mod-lt (value_at f.coefficients (f.count - 1)) some, power_small m.prime m.exponent m.listed.1) }
+    record { fits = omega (arith, c.value_at-value.ensures, mod-lt (value_at f.coefficients (f.count - 1)) some, power_small m.prime m.exponent m.listed.1) }
 
-pub invariant-of-self : goal.invariant-of-self
-invariant-of-self c =
+pub invariant_of-self : goal.invariant_of-self
+invariant_of-self c =
     let f = c.args.self.now in
     let m = f.modulus in
     let n = f.count - 1 in
@@ -40,4 +40,4 @@ pub returns : goal.returns
 returns c =
     let f = c.args.self.now in
     let count : f.count ≡ suc (f.count - 1) = omega (arith, c.requires) in
-    record { modulus = refl; after = shrunk f c.put.new.list (f.count - 1) c.value-at-value.result count (λ i h. rw c.put.ensures (get_or-set_other f.coefficients (f.count - 1) i 0 0 (omega arith))) c.value-at-value.ensures }
+    record { modulus = refl; after = shrunk f c.put.new.list (f.count - 1) c.value_at-value.result count (λ i h. rw c.put.ensures (get_or-set_other f.coefficients (f.count - 1) i 0 0 (omega arith))) c.value_at-value.ensures }

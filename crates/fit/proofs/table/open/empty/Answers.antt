@@ -3,7 +3,7 @@ use Rattle.modulus.proofs.Bounds.{w-positive}
 use Rattle.poly.proofs.Standing.{zeros}
 use Rattle.fit.proofs.table.open.empty.Goals as goal
 
-pub invariant-of-result : goal.invariant-of-result
-invariant-of-result c =
+pub invariant_of-result : goal.invariant_of-result
+invariant_of-result c =
     let m = c.args.modulus in
     (omega arith, ((λ k. rw (zeros 52 k) (w-positive m.prime m.exponent k m.listed)), ((λ k h. zeros 52 k), tt)))
