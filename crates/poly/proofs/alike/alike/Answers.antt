@@ -9,7 +9,7 @@ pub returns-in_err-modulus : goal.returns-in_err-modulus
 returns-in_err-modulus c =
     let r = err_from_is_err_and c.from_residual.result c.from_residual.ensures.1 in
     let off = c.in_err-modulus.ensures in
-    rw (r.1, r.2) (subst (λ (f : Refusal). NoComparison c.args.p c.args.e c.args.first.now c.args.second.now f) (sym off.1) (NoComparison.off_List off.0))
+    rw (r.1, r.2) (subst (λ (f : Refusal). NoComparison c.args.p c.args.e c.args.first.now c.args.second.now f) (sym off.1) (NoComparison.off_list off.0))
 
 pub returns-in_err-check_list : goal.returns-in_err-check_list
 returns-in_err-check_list c =
