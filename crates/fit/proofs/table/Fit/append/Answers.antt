@@ -23,7 +23,11 @@ invariant_of-self c =
     let m = f.modulus in
     let d = c.args.coefficient in
     let len : length f.coefficients ≡ 52 = search rules in
-    (omega (arith, c.requires.room, m.power), ((λ i. rw c.put.ensures (set-reduced m.prime m.exponent f.coefficients f.count d f.reduced c.requires.small (past f d len c.requires.small) i)), ((λ k h. rw c.put.ensures (get_or-set_other f.coefficients f.count k d 0 (omega arith) ∙ f.clear k (omega arith))), tt)))
+    record {
+      within = omega (arith, c.requires.room, m.power);
+      reduced = λ i. rw c.put.ensures (set-reduced m.prime m.exponent f.coefficients f.count d f.reduced c.requires.small (past f d len c.requires.small) i);
+      clear = λ k h. rw c.put.ensures (get_or-set_other f.coefficients f.count k d 0 (omega arith) ∙ f.clear k (omega arith));
+    }
 
 pub returns : goal.returns
 returns c =

@@ -27,7 +27,11 @@ invariant_of-self c =
     let f = c.args.self.now in
     let m = f.modulus in
     let n = f.count - 1 in
-    (omega (arith, f.within), ((λ i. rw c.put.ensures (set-reduced m.prime m.exponent f.coefficients n 0 f.reduced (w-positive m.prime m.exponent n m.listed) (λ _. refl) i)), ((λ k h. rw c.put.ensures (cleared f k h)), tt)))
+    record {
+      within = omega (arith, f.within);
+      reduced = λ i. rw c.put.ensures (set-reduced m.prime m.exponent f.coefficients n 0 f.reduced (w-positive m.prime m.exponent n m.listed) (λ _. refl) i);
+      clear = λ k h. rw c.put.ensures (cleared f k h);
+    }
   where
     cleared : (f : Fit) (k : ℕ) → f.count - 1 ≤ k → get_or (set f.coefficients (f.count - 1) 0) k 0 ≡ 0
     cleared f k h = go (ℕ_discrete k (f.count - 1))

@@ -6,4 +6,4 @@ use Rattle.fit.proofs.table.open.empty.Goals as goal
 pub invariant_of-result : goal.invariant_of-result
 invariant_of-result c =
     let m = c.args.modulus in
-    (omega arith, ((λ k. rw (zeros 52 k) (w-positive m.prime m.exponent k m.listed)), ((λ k h. zeros 52 k), tt)))
+    record { within = omega arith; reduced = λ k. rw (zeros 52 k) (w-positive m.prime m.exponent k m.listed); clear = λ k h. zeros 52 k }
