@@ -1,6 +1,6 @@
 -- The meanings of trays, where elements are read and written. Assumes nothing.
 use Rattle.std.proofs.Common.{◌≡◌, ℕ, zero, suc, ◌+◌, ◌-◌, ◌<◌, ◌≤◌, max, List, [], ◌∷◌, ◌++◌, map, length, get_or, take, set, sym, refl, ap, ◌∙◌, arith}
-use Rattle.std.proofs.lemmas.List.{get_or-map, map_set, take_more}
+use Rattle.std.proofs.lemmas.List.{get_or-map, map-set, take_more}
 use Rattle.element.specs.Rules.{Level}
 use Rattle.plan.specs.Steps.{greatest_of, step_at}
 use Rattle.plan.specs.Trays.{last_from}
@@ -18,7 +18,7 @@ module _ {A : Type 0} (lanes : A → List ℕ) (level : A → Level) where
       → meanings lanes level (set xs (base + s.to) x) ≡ after_step m base (meanings lanes level xs) s
   step_done m base xs s a b x la lb ra rb is =
       let ms = meanings lanes level xs in
-      map_set (meaning_of lanes level) xs (base + s.to) x ∙ ap (λ (n : Meaning). set ms (base + s.to) n) is
+      map-set (meaning_of lanes level) xs (base + s.to) x ∙ ap (λ (n : Meaning). set ms (base + s.to) n) is
       ∙ ap (λ (n : Meaning). set ms (base + s.to) (given m n (meaning_of lanes level b) s.k s.op)) (sym (tray_read xs (base + s.a) a la ra))
       ∙ ap (λ (n : Meaning). set ms (base + s.to) (given m (tray ms (base + s.a)) n s.k s.op)) (sym (tray_read xs (base + s.b) b lb rb))
 

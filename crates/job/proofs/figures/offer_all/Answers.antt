@@ -15,7 +15,7 @@ loop-i-init c = (refl, λ end r h. h)
 pub loop-i-preserved : goal.loop-i-preserved
 loop-i-preserved c =
     let values = c.args.values.now in
-    let i = c.loop-i.-i in
+    let i = c.loop-i._i in
     let f = c.loop-i.fit in
     let m = power_of c.args.fit.now.modulus in
     let got = c.in_default.ensures in
@@ -30,7 +30,7 @@ loop-i-preserved c =
 pub returns-in-Err : goal.returns-in-Err
 returns-in-Err c =
     let values = c.args.values.now in
-    let i = c.loop-i.-i in
+    let i = c.loop-i._i in
     let f = c.loop-i.fit in
     let m = power_of c.args.fit.now.modulus in
     let got = c.in-Err.ensures in
@@ -49,5 +49,5 @@ returns c =
     let f = c.loop-i.fit in
     record {
       modulus = c.loop-i.invariant.0;
-      judged = c.loop-i.invariant.1 (stands f) None (judged-end m (stands f) c.args.values.now c.loop-i.-i c.loop-i-test.false);
+      judged = c.loop-i.invariant.1 (stands f) None (judged-end m (stands f) c.args.values.now c.loop-i._i c.loop-i-test.false);
     }

@@ -9,5 +9,5 @@ abbrev pub invariant-loop-i : goal.invariant-loop-i
 invariant-loop-i l =
     (l.fit.modulus ≡ l.initial.fit.modulus)
     × ((end : List ℕ) (r : Option Refusal)
-    → Judged (power_of l.initial.fit.modulus) (stands l.fit) (drop l.-i l.values) end r
+    → Judged (power_of l.initial.fit.modulus) (stands l.fit) (drop l._i l.values) end r
     → Judged (power_of l.initial.fit.modulus) (stands l.initial.fit) l.values end r)

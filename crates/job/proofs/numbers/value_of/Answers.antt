@@ -17,8 +17,8 @@ overflow_mul-value c = omega (arith, c.loop-digit.invariant, small c.args.digits
 pub overflow_sub-digit : goal.overflow_sub-digit
 overflow_sub-digit c = (digit_at c.args.digits.now c.loop-digit.digit-index c.requires.all c.loop-digit-test.true).0
 
-pub overflow-add_value : goal.overflow-add_value
-overflow-add_value c = omega (arith, c.loop-digit.invariant, small c.args.digits.now c.loop-digit.digit-index c.requires.few c.requires.all, c.type_inv.digits c.loop-digit.digit-index)
+pub overflow_add-value : goal.overflow_add-value
+overflow_add-value c = omega (arith, c.loop-digit.invariant, small c.args.digits.now c.loop-digit.digit-index c.requires.few c.requires.all, c.type_inv.digits c.loop-digit.digit-index)
 
 pub loop-digit-preserved : goal.loop-digit-preserved
 loop-digit-preserved c =

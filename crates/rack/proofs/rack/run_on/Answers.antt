@@ -1,5 +1,5 @@
 use Rattle.std.proofs.Common.{◌≡◌, ℕ, ◌+◌, ◌<◌, List, length, take, set, sym, refl, ap, ◌∙◌, subst, arith}
-use Rattle.std.proofs.lemmas.List.{length-set, map_set}
+use Rattle.std.proofs.lemmas.List.{length-set, map-set}
 use Rattle.plan.specs.Trays.{last_from}
 use Rattle.plan.specs.declared.step.Step.{Step}
 use Rattle.rack.specs.Runs.{Meaning, Ran, StopsAt, StuckAt, after_steps, meaning_of, meanings, tray}
@@ -36,7 +36,7 @@ returns-in-Ok g c =
     let base = c.args.base in
     let last = c.last_tray.result in
     ran c.args.modulus.now.value base (meanings lanes level c.args.trays.now) _ (meanings lanes level c.do_steps.new.trays) c.args.steps.now (meaning_of lanes level c.args.input) (meaning_of lanes level c.tray_at.result)
-    (map_set (meaning_of lanes level) c.args.trays.now base c.args.input) got.0 got.1
+    (map-set (meaning_of lanes level) c.args.trays.now base c.args.input) got.0 got.1
     (sym (tray_read lanes level c.do_steps.new.trays (base + last) c.tray_at.result (omega (arith, c.requires, c.last_tray.ensures.within, c.do_steps.auto.trays, length-set c.args.trays.now base c.args.input)) c.tray_at.ensures)
     ∙ ap (λ (t : ℕ). tray (meanings lanes level c.do_steps.new.trays) (base + t)) c.last_tray.ensures.is)
 
@@ -49,5 +49,5 @@ returns-in-Err g c =
       c.in-Err.step,
       refl,
       stops c.args.modulus.now.value base (meanings lanes level c.args.trays.now) _ (meanings lanes level c.do_steps.new.trays) c.args.steps.now (meaning_of lanes level c.args.input) c.in-Err.step
-          (map_set (meaning_of lanes level) c.args.trays.now base c.args.input) got.0 got.1 got.2 got.3,
+          (map-set (meaning_of lanes level) c.args.trays.now base c.args.input) got.0 got.1 got.2 got.3,
     )

@@ -9,7 +9,7 @@ use Rattle.rack.proofs.run.run_all.Goals as goal
 pub returns-in_err-modulus : goal.returns-in_err-modulus
 returns-in_err-modulus g c =
     let p = err_from_is_err_and c.from_residual.result c.from_residual.ensures.1 in
-    rw (p.1, p.2) (record { tally = refl; lender = refl; cases = c.in_err-modulus.ensures _ _ _; stays = λ _. refl; level-rule = level-rule; answer-level = answer-level; lane-by_lane = lane-by_lane; due_lanes = due_lanes })
+    rw (p.1, p.2) (record { tally = refl; lender = refl; cases = c.in_err-modulus.ensures _ _ _; stays = λ _. refl; level_rule = level-rule; answer_level = answer-level; lane_by_lane = lane-by_lane; due_lanes = due_lanes })
 
 pub returns : goal.returns
 returns g c =
@@ -19,8 +19,8 @@ returns g c =
       lender = c.run_held.ensures.lender;
       cases = held c.args.p c.args.e c.in_ok-modulus.modulus.value c.args.steps.now c.args.tally.now.out _ _ _ (meaning_of g.E.Element.lanes g.E.Element.level) c.run_held.result made.0 (value-is c.in_ok-modulus.modulus c.args.p c.args.e made.1 made.2) made.3 c.run_held.ensures.cases;
       stays = c.run_held.ensures.stays;
-      level-rule = level-rule;
-      answer-level = answer-level;
-      lane-by_lane = lane-by_lane;
+      level_rule = level-rule;
+      answer_level = answer-level;
+      lane_by_lane = lane-by_lane;
       due_lanes = due_lanes;
     }
