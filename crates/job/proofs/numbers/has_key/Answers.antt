@@ -1,13 +1,13 @@
-use Rattle.std.proofs.Common.{◌≡◌, ℕ, ◌+◌, ◌-◌, ◌≤◌, Bool, true, false, List, ◌++◌, length, take, drop, Decides, MatchBool, sym, refl, ap, ◌∙◌, arith}
+use Rattle.std.proofs.Common.{◌≡◌, ℕ, ◌+◌, ◌-◌, ◌≤◌, Bool, true, false, eqb, List, ◌++◌, length, take, drop, MatchBool, sym, refl, ap, ◌∙◌, arith}
 use Rattle.std.proofs.lemmas.Slice.Eq.{starts_is}
 use Rattle.std.proofs.lemmas.List.{drop-drop, length-drop, take_rest}
 use Rattle.std.proofs.lemmas.Bool.{false≢true}
-use Rattle.std.specs.Cmp.Lexicographic.{Matches}
+use Rattle.std.specs.List.{starts_with}
 use Rattle.job.proofs.numbers.has_key.Goals as goal
 use Rattle.std.proofs.lemmas.Bool.Decides.{Decides-eqb}
 
 module _ (bs key : List ℕ) (at : ℕ) (le : at ≤ length bs) (part : List ℕ) (is : part ≡ drop at bs) where
-  told : (r : Bool) → (r ≡ true → length key ≤ length part) → Matches (λ (a b : ℕ) (t : Bool). Decides t (a ≡ b)) key (take (length key) part) r
+  told : (r : Bool) → (r ≡ true → length key ≤ length part) → r ≡ starts_with eqb part key
       → MatchBool r ((at + length key ≤ length bs) × (drop at bs ≡ key ++ drop (at + length key) bs)) ((rest : List ℕ) → at ≤ length bs → drop at bs ≡ key ++ rest → ⊥)
   told true bound h =
       let room = bound refl in
