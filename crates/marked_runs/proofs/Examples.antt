@@ -1,19 +1,16 @@
 -- The marked examples hold. Assumes nothing.
-use Rattle.std.proofs.Common.{◌≡◌, ℕ, zero, suc, ◌+◌, ◌*◌, ◌%◌, ◌^◌, ◌<◌, ◌≤◌, Bool, T, ltb, List, [], ◌∷◌, length, get_or, set, replicate, pos, sym, refl, subst, le_trans, arith, lit<, lit≤, ltb→lt}
+use Rattle.std.proofs.Common.{◌≡◌, ℕ, zero, suc, ◌^◌, ◌<◌, ◌≤◌, Bool, T, ltb, List, [], ◌∷◌, length, get_or, set, replicate, pos, sym, refl, subst, le_trans, arith, lit<, lit≤, ltb→lt}
 use native.Mathlib.Decide.{dec_lt}
 use Rattle.std.proofs.lemmas.List.{get_or_past}
-use Rattle.modulus.specs.Congruence.{Cong}
 use Rattle.modulus.specs.Moduli.{Listed}
-use Rattle.modulus.specs.Bounds.{v, w, Mu}
-use Rattle.modulus.proofs.Congruences.{cong_factor, cong_refl, mod_from_cong}
+use Rattle.modulus.specs.Bounds.{w}
+use Rattle.modulus.proofs.Congruences.{cong_refl}
 use Rattle.modulus.proofs.Primes.{all-below, all-below_at}
 use Rattle.modulus.proofs.Bounds.{w-positive}
 use Rattle.poly.specs.Equivalents.{SamePolynomial, ints}
-use Rattle.poly.specs.Polynomial.{Fits, form}
+use Rattle.poly.specs.Polynomial.{form}
 use Rattle.poly.specs.Reduced.{Reduced, Reported, standing}
-use Rattle.poly.proofs.Reports.{reported, no_fit, fits-standing}
-use Rattle.fit.specs.Rules.{unfit, Offered}
-use Rattle.poly.proofs.Equivalents.{null_example}
+use Rattle.poly.proofs.Reports.{reported}
 use Rattle.element.specs.Rules.{left, endless}
 use Rattle.rack.specs.Runs.{StopsAt, StuckAt, meaning}
 use Rattle.planner.specs.Layout.{ladder, block}

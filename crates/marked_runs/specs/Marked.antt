@@ -1,10 +1,5 @@
 -- The marked examples of plans and runs, as one table of which every line holds. Rests on plans and on runs.
 use Rattle.std.specs.Prelude.{◌≡◌, ℕ, ◌+◌, ◌^◌, List, [], ◌∷◌, length, replicate}
-use Rattle.modulus.specs.Bounds.{Mu, open_digits}
-use Rattle.modulus.specs.declared.refusal.Refusal.TheVariants.{NoPolynomial}
-use Rattle.poly.specs.Equivalents.{Null, ints}
-use Rattle.poly.specs.Reduced.{Reported}
-use Rattle.fit.specs.Rules.{NoOffer, Offered}
 use Rattle.plan.specs.Steps.{depth_of, multiplications_of}
 use Rattle.plan.specs.declared.step.Step.{Step}
 use Rattle.planner.specs.Plans.{Planned}

@@ -1,6 +1,6 @@
-use Rattle.std.proofs.Common.{◌≡◌, ℕ, ◌+◌, ◌-◌, min, length, ap, ◌∙◌, arith}
+use Rattle.std.proofs.Common.{◌≡◌, ◌+◌, ◌-◌, arith}
 use Rattle.fit.specs.Standing.{stands}
-use Rattle.full_desk.specs.Book.{begins, room}
+use Rattle.full_desk.specs.Book.{room}
 use Rattle.full_desk.proofs.Parts.{part-written}
 use Rattle.full_desk.proofs.carry.plan_part.Goals as goal
 

@@ -1,4 +1,4 @@
-use Rattle.std.proofs.Common.{◌≡◌, ℕ, suc, ◌+◌, ◌-◌, ◌*◌, ◌≤◌, List, [], ◌∷◌, ◌++◌, sym, ap, ◌∙◌, arith}
+use Rattle.std.proofs.Common.{◌≡◌, ℕ, suc, ◌-◌, ◌*◌, List, [], ◌∷◌, ◌++◌, sym, ap, ◌∙◌, arith}
 use Rattle.plan.specs.declared.step.Step.{Step}
 use Rattle.planner.specs.Layout.{blocks, filled, lower, scales}
 use Rattle.planner.proofs.Drafts.{block-less, joined, pushed, steps-less}

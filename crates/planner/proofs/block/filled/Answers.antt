@@ -1,4 +1,4 @@
-use Rattle.std.proofs.Common.{◌≡◌, ◌-◌, arith}
+use Rattle.std.proofs.Common.{◌-◌, arith}
 use Rattle.planner.specs.Layout.{terms}
 use Rattle.planner.proofs.Drafts.{pushed}
 use Rattle.planner.proofs.block.filled.Goals as goal

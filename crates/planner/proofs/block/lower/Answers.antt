@@ -1,4 +1,4 @@
-use Rattle.std.proofs.Common.{◌≡◌, ℕ, suc, ◌+◌, ◌-◌, ◌*◌, ◌≤◌, List, [], ◌∷◌, ◌++◌, length, sym, ap, ◌∙◌, mul-le-mul_right, arith}
+use Rattle.std.proofs.Common.{◌≡◌, ℕ, suc, ◌-◌, ◌*◌, ◌≤◌, List, [], ◌∷◌, ◌++◌, sym, ap, ◌∙◌, mul-le-mul_right, arith}
 use Rattle.plan.specs.declared.step.Step.{Step}
 use Rattle.planner.specs.Layout.{filled, lower, multiplies}
 use Rattle.planner.proofs.Drafts.{block-less, joined, pushed, steps-less}

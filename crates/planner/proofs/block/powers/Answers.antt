@@ -1,4 +1,4 @@
-use Rattle.std.proofs.Common.{◌≡◌, ◌+◌, ◌-◌, ◌/◌, List, [], ◌∷◌, ◌++◌, sym, ap, ◌∙◌, append_assoc, arith}
+use Rattle.std.proofs.Common.{◌+◌, ◌-◌, ◌/◌, [], ◌∷◌, append_assoc, arith}
 use Rattle.planner.specs.Draft.{listed}
 use Rattle.planner.specs.Layout.{multiplies, powers}
 use Rattle.planner.proofs.Drafts.{powers-more}

@@ -1,4 +1,4 @@
-use Rattle.std.proofs.Common.{◌≡◌, ◌+◌, List, [], ◌∷◌, ◌++◌, get_or, sym, ap, ◌∙◌, append_assoc, arith}
+use Rattle.std.proofs.Common.{◌+◌, [], ◌∷◌, get_or, append_assoc, arith}
 use Rattle.planner.specs.Draft.{listed}
 use Rattle.planner.specs.Layout.{adds, scales, terms}
 use Rattle.planner.proofs.Drafts.{pushed, terms-more}

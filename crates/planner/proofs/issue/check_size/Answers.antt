@@ -1,4 +1,4 @@
-use Rattle.std.proofs.Common.{◌≡◌, sym, subst, arith}
+use Rattle.std.proofs.Common.{sym, subst, arith}
 use Rattle.modulus.specs.declared.refusal.Refusal.TheVariants.{OutOfRange}
 use Rattle.planner.specs.Plans.{NoPlan, no_size}
 use Rattle.planner.specs.declared.kind.Kind.{Kind}

@@ -1,4 +1,4 @@
-use Rattle.std.proofs.Common.{◌≡◌, ℕ, ◌-◌, ◌≤◌, List, length, take, drop, sym, refl, ap, ◌∙◌, subst, arith}
+use Rattle.std.proofs.Common.{◌≡◌, ℕ, ◌-◌, List, length, take, drop, sym, refl, ap, ◌∙◌, subst, arith}
 use Rattle.std.proofs.lemmas.Result.{err_from_is_err_and}
 use Rattle.std.proofs.lemmas.List.{take_at, drop_at, length-take-le}
 use Rattle.modulus.specs.declared.refusal.Refusal.TheVariants.{ShortBuffer}
@@ -7,7 +7,6 @@ use Rattle.plan.specs.declared.cost.Price.{Price}
 use Rattle.plan.specs.declared.step.Step.{Step}
 use Rattle.planner.specs.Draft.{listed}
 use Rattle.planner.specs.Plans.{Priced}
-use Rattle.planner.specs.declared.draft.Draft.{Draft}
 use Rattle.planner.proofs.issue.hand_out.Goals as goal
 
 pub returns-in_err-check_room : goal.returns-in_err-check_room

@@ -1,6 +1,4 @@
-use Rattle.std.proofs.Common.{◌≡◌, ℕ, ◌≤◌, List, length, get_or, subst, arith, rules}
-use Rattle.modulus.specs.Moduli.{Listed}
-use Rattle.poly.specs.Reduced.{Reduced, form_length}
+use Rattle.std.proofs.Common.{◌≡◌, length, subst, arith, rules}
 use Rattle.poly.proofs.Standing.{form_length-past}
 use Rattle.planner.specs.Plans.{Sized}
 use Rattle.planner.specs.declared.kind.Kind.{Kind}

@@ -1,6 +1,4 @@
-use Rattle.std.proofs.Common.{◌≡◌, List, [], ◌∷◌, ◌++◌, ap, ◌∙◌, arith}
-use Rattle.plan.specs.declared.step.Step.{Step}
-use Rattle.planner.specs.Draft.{listed}
+use Rattle.std.proofs.Common.{[], ◌∷◌, arith}
 use Rattle.planner.proofs.Drafts.{pushed}
 use Rattle.planner.proofs.ladder.rung.Goals as goal
 

@@ -1,4 +1,4 @@
-use Rattle.std.proofs.Common.{◌≡◌, ℕ, ◌<◌, length, take}
+use Rattle.std.proofs.Common.{◌≡◌, ℕ, ◌<◌, take}
 use Rattle.rack.specs.Runs.{StuckAt, after_steps, meanings}
 use Rattle.rack.proofs.rack.do_steps.Given as goal
 

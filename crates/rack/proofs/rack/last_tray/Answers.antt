@@ -1,5 +1,4 @@
-use Rattle.std.proofs.Common.{ℕ, ◌≤◌, sym, subst, arith}
-use Rattle.plan.specs.Steps.{greatest_of}
+use Rattle.std.proofs.Common.{sym, arith}
 use Rattle.rack.proofs.Meant.{last_at, last_none, tray-within}
 use Rattle.rack.proofs.rack.last_tray.Goals as goal
 

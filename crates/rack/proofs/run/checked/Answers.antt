@@ -1,4 +1,3 @@
-use Rattle.std.proofs.Common.{◌≡◌, ℕ, subst}
 use Rattle.std.proofs.lemmas.Result.{err_from_is_err_and}
 use Rattle.rack.proofs.Refusing.{first_bad, unlisted, value-is}
 use Rattle.rack.proofs.run.checked.Goals as goal

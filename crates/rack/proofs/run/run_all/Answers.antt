@@ -1,6 +1,6 @@
 use Rattle.std.proofs.Common.{refl}
 use Rattle.std.proofs.lemmas.Result.{err_from_is_err_and}
-use Rattle.rack.specs.Runs.{meaning_of, meanings}
+use Rattle.rack.specs.Runs.{meaning_of}
 use Rattle.rack.proofs.Laning.{due_lanes, lane-by_lane}
 use Rattle.rack.proofs.Leveling.{answer-level, level-rule}
 use Rattle.rack.proofs.Refusing.{held, value-is}

@@ -1,6 +1,5 @@
-use Rattle.std.proofs.Common.{◌≡◌, sym, refl, subst}
+use Rattle.std.proofs.Common.{sym, refl, subst}
 use Rattle.std.proofs.lemmas.Result.{err_from_is_err_and}
-use Rattle.rack.specs.Runs.{StuckStep, meanings}
 use Rattle.rack.proofs.Meant.{step_done, stuck_is}
 use Rattle.rack.proofs.step.do_step.Goals as goal
 
