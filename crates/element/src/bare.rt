@@ -2,7 +2,6 @@
 ghost use Rattle.std.specs.Prelude.{◌≡◌, ◌<◌, [], ◌∷◌};
 ghost use Rattle.element.specs.Rules.{endless};
 ghost use Rattle.std.proofs.Common.{rules};
-ghost use native.Mathlib.Omega;
 
 use crate::arith::{product, quotient, sum};
 use crate::rules::{Element, Open, Spent};
@@ -30,11 +29,11 @@ impl Element for Bare {
 
     ghost width = { 1 };
 
-    ghost wide = { first_of (Prim.search rules, Prim.grind (Omega.arith, Self.row.coded.inj)) };
+    ghost wide = { Prim.search rules };
 
-    ghost some = { first_of (Prim.search rules, Prim.grind (Omega.arith, Self.row.coded.inj)) };
+    ghost some = { Prim.search rules };
 
-    ghost small = { first_of (Prim.search rules, Prim.grind (Omega.arith, Self.row.coded.inj)) };
+    ghost small = { Prim.search rules };
 
     fn add(self, other: Bare, modulus: &Modulus) -> Bare {
         Bare {

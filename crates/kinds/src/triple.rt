@@ -4,7 +4,6 @@
 ghost use Rattle.std.specs.Prelude.{◌≡◌, ◌<◌, [], ◌∷◌};
 ghost use Rattle.element.specs.Rules.{endless};
 ghost use Rattle.std.proofs.Common.{rules};
-ghost use native.Mathlib.Omega;
 
 use element::arith::{product, quotient, sum};
 use element::rules::{Element, Open, Spent};
@@ -41,11 +40,11 @@ impl Element for Triple {
 
     ghost width = { 3 };
 
-    ghost wide = { first_of (Prim.search rules, Prim.grind (Omega.arith, Self.row.coded.inj)) };
+    ghost wide = { Prim.search rules };
 
-    ghost some = { first_of (Prim.search rules, Prim.grind (Omega.arith, Self.row.coded.inj)) };
+    ghost some = { Prim.search rules };
 
-    ghost small = { first_of (Prim.search rules, Prim.grind (Omega.arith, Self.row.coded.inj)) };
+    ghost small = { Prim.search rules };
 
     fn add(self, other: Triple, modulus: &Modulus) -> Triple {
         Triple {
