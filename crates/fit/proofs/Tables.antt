@@ -31,8 +31,8 @@ rest_to_sum m a y d some h =
     let rest : Cong m (pos d) (pos y -ℤ pos a) = cong_trans (cong_from_mod m d (y + (m - a % m)) (h ∙ mod-mod (y + (m - a % m)) m)) (cong_less m y a some) in
     cong_trans (cong_add (cong_refl m (pos a)) rest) (cong_path m (back_ring (pos a) (pos y)))
 
-pub sum-to_rest : (m a y d : ℕ) → 0 < m → Cong m (pos (a + d)) (pos y) → d % m ≡ ((y + (m - a % m)) % m) % m
-sum-to_rest m a y d some h =
+pub sum_to_rest : (m a y d : ℕ) → 0 < m → Cong m (pos (a + d)) (pos y) → d % m ≡ ((y + (m - a % m)) % m) % m
+sum_to_rest m a y d some h =
     let rest : Cong m (pos d) (pos y -ℤ pos a) = cong_trans (cong_path m (less-ring (pos a) (pos d))) (cong_add h (cong_refl m (neg_ℤ (pos a)))) in
     mod_from_cong (cong_trans rest (cong_sym (cong_less m y a some))) ∙ sym (mod-mod (y + (m - a % m)) m)
 

@@ -21,7 +21,7 @@ use Rattle.job.specs.Forms.{page_text}
 use Rattle.job.specs.Report.{FiguresOf, Judged, Reports, judged, no_modulus, refusal_lines, report_lines}
 use Rattle.job.specs.Text.{Says}
 use Rattle.job.specs.declared.page.Figures.{Figures}
-use Rattle.job.specs.declared.page.Page.TheVariants.{Refused, Judged as Page-judged}
+use Rattle.job.specs.declared.page.Page.TheVariants.{Refused, Judged as PageJudged}
 
 -- ---- no refusal
 -- what asks for no more than the buffer has is answered
@@ -64,7 +64,7 @@ off_the_list p e vs f off is bytes says = subst (λ (x : Refusal). Reports bytes
 pub page_judged : (p e : ℕ) (g h : Fit) (vs : List ℕ) (r : Option Refusal) (a : Figures) → Listed p e → g.modulus.prime ≡ p → g.modulus.exponent ≡ e → stands g ≡ []
     → h.modulus ≡ g.modulus → Judged (power_of g.modulus) (stands g) vs (stands h) r → a.standing ≡ length (stands h) → a.refusal ≡ r
     → FiguresOf h.modulus.prime h.modulus.exponent (stands h) (take a.count a.reduced) (take a.count a.powers) a.multiplications
-    → (bytes : List ℕ) → Says bytes p e vs → Reports bytes (page_text (Page-judged a))
+    → (bytes : List ℕ) → Says bytes p e vs → Reports bytes (page_text (PageJudged a))
 page_judged p e g h vs r a listed prime exponent empty same offers standing refusal made bytes says =
     let reduced : List ℕ = take a.count a.reduced in
     let powers : List ℕ = take a.count a.powers in

@@ -5,7 +5,7 @@ use Rattle.std.proofs.lemmas.List.{get_or_past}
 use Rattle.modulus.proofs.Integers.{zring}
 use Rattle.poly.specs.Polynomial.{falling, form}
 use Rattle.poly.specs.Reduced.{SameForm, form_length}
-use Rattle.poly.proofs.Coefficients.{falling-past, sum_of, getD-sum_suc, sum-of_stop, form-sum}
+use Rattle.poly.proofs.Coefficients.{falling-past, sum_of, get_or-sum_suc, sum_of-stop, form-sum}
 use Rattle.poly.proofs.Standing.{form_length-le, form_length-past}
 use Rattle.plan.specs.declared.step.Step.{Step}
 use Rattle.planner.specs.Layout.{adds, multiplies, scales, shifts, minus, rungs, ladder, powers, terms, filled, lower, blocks, block}
@@ -21,10 +21,10 @@ none-ring : (c : ℤ) → pos 0 +ℤ c *ℤ pos 0 ≡ pos 0
 none-ring c = simp zring
 
 -- terms below place n have no coefficient in powers of X from n on
-sum-of_past : (c : ℕ → ℤ) (n k : ℕ) → n ≤ k → get_or (sum_of c n) k (pos 0) ≡ pos 0
-sum-of_past c zero k l = refl
-sum-of_past c (suc n) k l =
-    getD-sum_suc c n k ∙ ap (λ (z : ℤ). z +ℤ c n *ℤ get_or (falling n) k (pos 0)) (sum-of_past c n k (omega arith))
+sum_of-past : (c : ℕ → ℤ) (n k : ℕ) → n ≤ k → get_or (sum_of c n) k (pos 0) ≡ pos 0
+sum_of-past c zero k l = refl
+sum_of-past c (suc n) k l =
+    get_or-sum_suc c n k ∙ ap (λ (z : ℤ). z +ℤ c n *ℤ get_or (falling n) k (pos 0)) (sum_of-past c n k (omega arith))
     ∙ ap (λ (z : ℤ). pos 0 +ℤ c n *ℤ z) (falling-past n k l) ∙ none-ring (c n)
 
 -- a Newton form has no coefficient in powers of X from its length on
@@ -32,8 +32,8 @@ pub form-past : (c : List ℕ) (k : ℕ) → form_length c ≤ k → get_or (for
 form-past c k l =
     let short : form_length c ≤ length c = form_length-le c (length c) (λ i g. get_or_past c i 0 g) in
     form-sum c (length c) (le_refl (length c)) k
-    ∙ sum-of_stop (λ (i : ℕ). pos (get_or c i 0)) (form_length c) (length c) short (λ i g. ap pos (form_length-past c i g)) k
-    ∙ sum-of_past (λ (i : ℕ). pos (get_or c i 0)) (form_length c) k l
+    ∙ sum_of-stop (λ (i : ℕ). pos (get_or c i 0)) (form_length c) (length c) short (λ i g. ap pos (form_length-past c i g)) k
+    ∙ sum_of-past (λ (i : ℕ). pos (get_or c i 0)) (form_length c) k l
 
 -- one form written with other zeros at its end has the same coefficients in powers of X
 pub form-same : (c d : List ℕ) → SameForm c d → (k : ℕ) → get_or (form c) k (pos 0) ≡ get_or (form d) k (pos 0)

@@ -1,7 +1,7 @@
 // Block plans.
 ghost use Rattle.std.specs.Prelude.{◌≡◌, ◌+◌, ◌-◌, ◌*◌, ◌/◌, ◌<◌, ◌≤◌, [], ◌∷◌, ◌++◌, length};
 ghost use Rattle.planner.specs.Draft.{listed};
-ghost use Rattle.planner.specs.Layout.{block as Block-of, blocks as blocks-of, filled as Filled-of, lower as lower_of, multiplies, powers as powers_of, terms as terms_of};
+ghost use Rattle.planner.specs.Layout.{block as block_of, blocks as blocks_of, filled as filled_of, lower as lower_of, multiplies, powers as powers_of, terms as terms_of};
 
 use crate::draft::{Draft, add, multiply, scale, shift};
 use plan::step::Step;
@@ -49,7 +49,7 @@ fn filled(draft: &mut Draft, a: &[u16], at: usize, size: u8)
     requires few { size ≤ 8 }
     requires within { at + size ≤ length a.now }
     requires room { draft.old.count + 1 + 2 * size ≤ 160 }
-    ensures listed { listed draft.new ≡ listed draft.old ++ Filled-of size a.now at }
+    ensures listed { listed draft.new ≡ listed draft.old ++ filled_of size a.now at }
     ensures count { draft.new.count + 1 ≡ draft.old.count + 2 * size }
 {
     draft.push(shift(size, size, a[at]));
@@ -78,7 +78,7 @@ fn blocks(draft: &mut Draft, a: &[u16], count: usize, size: u8)
     requires any { 1 ≤ count }
     requires within { count * size ≤ length a.now }
     requires room { draft.old.count + 2 * size * count ≤ 152 }
-    ensures listed { listed draft.new ≡ listed draft.old ++ blocks-of size a.now count }
+    ensures listed { listed draft.new ≡ listed draft.old ++ blocks_of size a.now count }
     ensures count { draft.new.count ≡ draft.old.count + 2 * size * count }
 {
     let top = count - 1;
@@ -93,7 +93,7 @@ pub(crate) fn block(a: &[u16], used: usize, size: u8) -> Draft
     requires few { size ≤ 8 }
     requires most { used ≤ 52 }
     requires long { 60 ≤ length a.now }
-    ensures listed { listed result ≡ Block-of size a.now used }
+    ensures listed { listed result ≡ block_of size a.now used }
     ensures few { result.count ≤ 160 }
 {
     let mut draft = Draft::new();

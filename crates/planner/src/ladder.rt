@@ -1,7 +1,7 @@
 // Ladders.
 ghost use Rattle.std.specs.Prelude.{◌≡◌, ◌+◌, ◌*◌, ◌<◌, ◌≤◌, [], ◌∷◌, ◌++◌, length};
 ghost use Rattle.planner.specs.Draft.{listed};
-ghost use Rattle.planner.specs.Layout.{ladder as Ladder-of, minus as minus-of, multiplies, rungs as rungs_of, shifts};
+ghost use Rattle.planner.specs.Layout.{ladder as ladder_of, minus as minus_of, multiplies, rungs as rungs_of, shifts};
 
 use crate::draft::{Draft, multiply, scale, shift};
 
@@ -9,7 +9,7 @@ use crate::draft::{Draft, multiply, scale, shift};
 fn minus(m: u32, i: usize) -> u16
     requires above { 1 < m }
     requires small { m ≤ 65536 }
-    ensures { result ≡ minus-of m i }
+    ensures { result ≡ minus_of m i }
 {
     let m = m as usize;
     ((m - i % m) % m) as u16
@@ -20,7 +20,7 @@ fn rung(draft: &mut Draft, m: u32, i: usize, c: u16)
     requires above { 1 < m }
     requires small { m ≤ 65536 }
     requires room { draft.old.count + 3 ≤ 160 }
-    ensures listed { listed draft.new ≡ listed draft.old ++ shifts 2 0 (minus-of m i) ∷ multiplies 1 1 2 ∷ shifts 1 1 c ∷ [] }
+    ensures listed { listed draft.new ≡ listed draft.old ++ shifts 2 0 (minus_of m i) ∷ multiplies 1 1 2 ∷ shifts 1 1 c ∷ [] }
     ensures count { draft.new.count ≡ draft.old.count + 3 }
 {
     draft.push(shift(2, 0, minus(m, i)));
@@ -48,7 +48,7 @@ pub(crate) fn ladder(m: u32, coefficients: &[u16], used: usize) -> Draft
     requires small { m ≤ 65536 }
     requires few { used ≤ 52 }
     requires within { used ≤ length coefficients.now }
-    ensures listed { listed result ≡ Ladder-of m coefficients.now used }
+    ensures listed { listed result ≡ ladder_of m coefficients.now used }
     ensures few { result.count ≤ 160 }
 {
     let mut draft = Draft::new();

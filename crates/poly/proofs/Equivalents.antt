@@ -18,7 +18,7 @@ use Rattle.poly.proofs.Values.{value-plus, value-scaled, value-falling, value-fo
 use Rattle.poly.proofs.Falling.{ordinary-laws}
 use Rattle.poly.proofs.Standing.{value-is, value_same, front_same}
 use Rattle.poly.proofs.Reports.{coefficients, same-from_values}
-use Rattle.poly.proofs.Coefficients.{getD-plus, getD-scaled, sum_of, getD-sum_suc, to_newton-polynomial, same_alike}
+use Rattle.poly.proofs.Coefficients.{get_or-plus, get_or-scaled, sum_of, get_or-sum_suc, to_newton-polynomial, same_alike}
 
 -- ---- the reduced form
 -- one form has one list of values
@@ -133,11 +133,11 @@ sum-combination p e c k h zero j = refl
 sum-combination p e c k h (suc n) j =
     let b : ℤ = get_or (falling n) j (pos 0) in
     let s : ℤ = get_or (combination p e k n) j (pos 0) in
-    getD-sum_suc c n j ∙ ap (λ (z : ℤ). z +ℤ c n *ℤ b) (sum-combination p e c k h n j)
+    get_or-sum_suc c n j ∙ ap (λ (z : ℤ). z +ℤ c n *ℤ b) (sum-combination p e c k h n j)
     ∙ ap (λ (z : ℤ). s +ℤ z *ℤ b) (h n) ∙ ap (λ (z : ℤ). s +ℤ z) (term_ring (k n) (pos (w p e n)) b)
-    ∙ ap (λ (z : ℤ). s +ℤ k n *ℤ z) (sym (getD-scaled (pos (w p e n)) (falling n) j))
-    ∙ ap (λ (z : ℤ). s +ℤ z) (sym (getD-scaled (k n) (null_at p e n) j))
-    ∙ sym (getD-plus (combination p e k n) (scaled (k n) (null_at p e n)) j)
+    ∙ ap (λ (z : ℤ). s +ℤ k n *ℤ z) (sym (get_or-scaled (pos (w p e n)) (falling n) j))
+    ∙ ap (λ (z : ℤ). s +ℤ z) (sym (get_or-scaled (k n) (null_at p e n) j))
+    ∙ sym (get_or-plus (combination p e k n) (scaled (k n) (null_at p e n)) j)
 
 -- a null polynomial is such a combination, with as many terms as it has coefficients or more
 pub null_combination : (p e : ℕ) → Listed p e → (f : List ℤ) (n : ℕ) → length f ≤ n → Null (p ^ e) f

@@ -12,16 +12,16 @@ use Rattle.poly.specs.Equivalents.{Null, SamePolynomial, ints}
 use Rattle.poly.specs.Polynomial.{falling, form, scaled}
 use Rattle.poly.specs.Powers.{Holds, NoPowers, long, short}
 use Rattle.poly.specs.Shift.{shifted}
-use Rattle.poly.proofs.Coefficients.{same_alike, same-falling_step, same-newton_step, sum_of, form-sum, getD-plus, getD-scaled}
+use Rattle.poly.proofs.Coefficients.{same_alike, same-falling_step, same-newton_step, sum_of, form-sum, get_or-plus, get_or-scaled}
 use Rattle.poly.proofs.Standing.{front_same, zeros}
-use Rattle.poly.proofs.Shifts.{getD-ints, shifted-first, shifted_next, shifted-below, shifted-clear}
+use Rattle.poly.proofs.Shifts.{get_or-ints, shifted-first, shifted_next, shifted-below, shifted-clear}
 
 -- agreement of coefficients, without the map
 pub to_same : (m : ℕ) (f : List ℤ) (xs : List ℕ) → ((k : ℕ) → Cong m (pos (get_or xs k 0)) (get_or f k (pos 0))) → SamePolynomial m (ints xs) f
-to_same m f xs h k = cong_trans (cong_path m (getD-ints xs k)) (h k)
+to_same m f xs h k = cong_trans (cong_path m (get_or-ints xs k)) (h k)
 
 pub from_same : (m : ℕ) (f : List ℤ) (xs : List ℕ) → SamePolynomial m (ints xs) f → (k : ℕ) → Cong m (pos (get_or xs k 0)) (get_or f k (pos 0))
-from_same m f xs h k = cong_trans (cong_path m (sym (getD-ints xs k))) (h k)
+from_same m f xs h k = cong_trans (cong_path m (sym (get_or-ints xs k))) (h k)
 
 -- what is held in a list is held in its front
 pub held_front : (m : ℕ) (f : List ℤ) (n : ℕ) (xs : List ℕ) → Holds m f n xs → Holds m f n (take n xs)
@@ -96,7 +96,7 @@ sum-next m i c g xs ys zs h ly lz is held falls added = record { is = rw add-one
         cong_trans (cong_path m (ap pos (at k)))
         (cong_trans (cong_sym (cong_mod m (get_or xs k 0 + c * get_or ys k 0)))
         (cong_trans (cong_add (from_same m (sum_of g i) xs held.is k) (cong_mul (cong_path m (sym is)) (from_same m (falling i) ys falls.is k)))
-        (cong_path m (ap (λ (z : ℤ). get_or (sum_of g i) k (pos 0) +ℤ z) (sym (getD-scaled (g i) (falling i) k)) ∙ sym (getD-plus (sum_of g i) (scaled (g i) (falling i)) k)))))
+        (cong_path m (ap (λ (z : ℤ). get_or (sum_of g i) k (pos 0) +ℤ z) (sym (get_or-scaled (g i) (falling i) k)) ∙ sym (get_or-plus (sum_of g i) (scaled (g i) (falling i)) k)))))
 
     small : (k : ℕ) → get_or zs k 0 < m
     small k = rw (at k) (mod-lt (get_or xs k 0 + c * get_or ys k 0) (omega arith))
@@ -128,7 +128,7 @@ scaled-held m n c b f xs zs h len is held made = record { is = to_same m (scaled
     agrees k =
         cong_trans (cong_path m (ap pos (at k ∙ ap (λ (a : ℕ). a % m) (let z : 0 + c * get_or xs k 0 ≡ c * get_or xs k 0 = omega arith in z))))
         (cong_trans (cong_sym (cong_mod m (c * get_or xs k 0)))
-        (cong_trans (cong_mul is (from_same m f xs held.is k)) (cong_path m (sym (getD-scaled b f k)))))
+        (cong_trans (cong_mul is (from_same m f xs held.is k)) (cong_path m (sym (get_or-scaled b f k)))))
 
     small : (k : ℕ) → get_or zs k 0 < m
     small k = rw (at k) (mod-lt (0 + c * get_or xs k 0) (omega arith))

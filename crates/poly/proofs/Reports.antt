@@ -15,7 +15,7 @@ use Rattle.poly.proofs.Points.{newton, Laws, unique}
 use Rattle.poly.proofs.Basis.{exact, least}
 use Rattle.poly.specs.Basis.{ordinary}
 use Rattle.poly.proofs.Falling.{falls-self, basis_falls, ordinary-laws}
-use Rattle.poly.proofs.Standing.{newton_is, value-is, sum-to_same, value_at-stop, value_at-past, length-standing, standing-at, standing-same, form_length-le, form_length-past}
+use Rattle.poly.proofs.Standing.{newton_is, value-is, sum_to-same, value_at-stop, value_at-past, length-standing, standing-at, standing-same, form_length-le, form_length-past}
 
 -- ---- what a form takes
 pub value-standing : (m : ℕ) (c : List ℕ) (n i : ℕ) → i < n → Cong m (pos (value_at c i)) (pos (get_or (standing m c n) i 0))
@@ -107,7 +107,7 @@ natural_residue (suc m) l (negsuc a) = (suc a * m, record { times = pos (suc a);
 pub value-extended : (c c' : List ℕ) (n d : ℕ) → ((i : ℕ) → n ≤ i → get_or c i 0 ≡ 0) → ((i : ℕ) → i < n → get_or c' i 0 ≡ get_or c i 0) → get_or c' n 0 ≡ d
     → value_at c' n ≡ value_at c n + d * factorial n
 value-extended c c' n d z s t =
-    value_at-past c' n (suc n) (omega arith) ∙ ap (λ (x : ℕ). x + get_or c' n 0 * falls n n) (sum-to_same c' c n n s ∙ sym (value_at-stop c n n z))
+    value_at-past c' n (suc n) (omega arith) ∙ ap (λ (x : ℕ). x + get_or c' n 0 * falls n n) (sum_to-same c' c n n s ∙ sym (value_at-stop c n n z))
     ∙ ap (λ (x : ℕ). value_at c n + x * falls n n) t ∙ ap (λ (x : ℕ). value_at c n + d * x) (falls-self n)
 
 pub extended : (p e : ℕ) → Listed p e → (c c' : List ℕ) (n y d : ℕ) → y < p ^ e → ((i : ℕ) → n ≤ i → get_or c i 0 ≡ 0)

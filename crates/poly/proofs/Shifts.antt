@@ -9,10 +9,10 @@ use Rattle.modulus.proofs.Congruences.{cong_path, cong_sym, cong_trans, cong_mod
 use Rattle.poly.specs.Equivalents.{ints}
 use Rattle.poly.specs.Shift.{shifted}
 
-pub getD-ints : (xs : List ℕ) (k : ℕ) → get_or (ints xs) k (pos 0) ≡ pos (get_or xs k 0)
-getD-ints [] k = refl
-getD-ints (x ∷ xs) zero = refl
-getD-ints (x ∷ xs) (suc k) = getD-ints xs k
+pub get_or-ints : (xs : List ℕ) (k : ℕ) → get_or (ints xs) k (pos 0) ≡ pos (get_or xs k 0)
+get_or-ints [] k = refl
+get_or-ints (x ∷ xs) zero = refl
+get_or-ints (x ∷ xs) (suc k) = get_or-ints xs k
 
 pub length-ints : (xs : List ℕ) → length (ints xs) ≡ length xs
 length-ints [] = refl

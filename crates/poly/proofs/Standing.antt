@@ -20,18 +20,18 @@ pub value-is : (c : List ℕ) (x : ℕ) → value (form c) (pos x) ≡ pos (valu
 value-is c x = value-form c (length c) (le_refl (length c)) (pos x) ∙ newton_is c (length c) x
 
 -- ---- which terms it has
-pub sum-to_same : (c d : List ℕ) (x k : ℕ) → ((i : ℕ) → i < k → get_or c i 0 ≡ get_or d i 0) → sum_to c x k ≡ sum_to d x k
-sum-to_same c d x zero h = refl
-sum-to_same c d x (suc k) h =
-    ap (λ (n : ℕ). n + get_or c k 0 * falls x k) (sum-to_same c d x k (λ i l. h i (omega arith)))
+pub sum_to-same : (c d : List ℕ) (x k : ℕ) → ((i : ℕ) → i < k → get_or c i 0 ≡ get_or d i 0) → sum_to c x k ≡ sum_to d x k
+sum_to-same c d x zero h = refl
+sum_to-same c d x (suc k) h =
+    ap (λ (n : ℕ). n + get_or c k 0 * falls x k) (sum_to-same c d x k (λ i l. h i (omega arith)))
     ∙ ap (λ (n : ℕ). sum_to d x k + n * falls x k) (h k (omega arith))
 
 -- terms past x vanish
-pub sum-to_past : (c : List ℕ) (x k : ℕ) → x < k → sum_to c x k ≡ sum_to c x (suc x)
-sum-to_past c x zero l = absurd (omega arith)
-sum-to_past c x (suc k) l =
+pub sum_to-past : (c : List ℕ) (x k : ℕ) → x < k → sum_to c x k ≡ sum_to c x (suc x)
+sum_to-past c x zero l = absurd (omega arith)
+sum_to-past c x (suc k) l =
     below_suc (λ (x : ℕ). sum_to c x (suc k) ≡ sum_to c x (suc x)) k
-    (λ x l. ap (λ (n : ℕ). sum_to c x k + get_or c k 0 * n) (falls-past x k l) ∙ none (sum_to c x k) (get_or c k 0) ∙ sum-to_past c x k l)
+    (λ x l. ap (λ (n : ℕ). sum_to c x k + get_or c k 0 * n) (falls-past x k l) ∙ none (sum_to c x k) (get_or c k 0) ∙ sum_to-past c x k l)
     refl
     x l
   where
@@ -39,33 +39,33 @@ sum-to_past c x (suc k) l =
     none s a = omega arith
 
 -- terms whose coefficients are 0 add nothing
-pub sum-to_stop : (c : List ℕ) (x j k : ℕ) → ((i : ℕ) → j ≤ i → get_or c i 0 ≡ 0) → sum_to c x (j + k) ≡ sum_to c x j
-sum-to_stop c x j zero h =
+pub sum_to-stop : (c : List ℕ) (x j k : ℕ) → ((i : ℕ) → j ≤ i → get_or c i 0 ≡ 0) → sum_to c x (j + k) ≡ sum_to c x j
+sum_to-stop c x j zero h =
     let same : j + zero ≡ j = omega arith in
     ap (λ (n : ℕ). sum_to c x n) same
-sum-to_stop c x j (suc k) h =
+sum_to-stop c x j (suc k) h =
     let step : j + suc k ≡ suc (j + k) = omega arith in
     ap (λ (n : ℕ). sum_to c x n) step ∙ ap (λ (n : ℕ). sum_to c x (j + k) + n * falls x (j + k)) (h (j + k) (omega arith))
-    ∙ none (sum_to c x (j + k)) (falls x (j + k)) ∙ sum-to_stop c x j k h
+    ∙ none (sum_to c x (j + k)) (falls x (j + k)) ∙ sum_to-stop c x j k h
   where
     none : (s a : ℕ) → s + 0 * a ≡ s
     none s a = omega arith
 
 pub value_at-more : (c : List ℕ) (x k : ℕ) → value_at c x ≡ sum_to c x (length c + k)
-value_at-more c x k = sym (sum-to_stop c x (length c) k (λ i l. get_or_past c i 0 l))
+value_at-more c x k = sym (sum_to-stop c x (length c) k (λ i l. get_or_past c i 0 l))
 
 pub value_at-stop : (c : List ℕ) (x k : ℕ) → ((i : ℕ) → k ≤ i → get_or c i 0 ≡ 0) → value_at c x ≡ sum_to c x k
 value_at-stop c x k h =
     let turn : length c + k ≡ k + length c = omega arith in
-    value_at-more c x k ∙ ap (λ (n : ℕ). sum_to c x n) turn ∙ sum-to_stop c x k (length c) h
+    value_at-more c x k ∙ ap (λ (n : ℕ). sum_to c x n) turn ∙ sum_to-stop c x k (length c) h
 
 pub value_at-past : (c : List ℕ) (x k : ℕ) → x < k → value_at c x ≡ sum_to c x k
-value_at-past c x k l = value_at-more c x k ∙ sum-to_past c x (length c + k) (omega arith) ∙ sym (sum-to_past c x k l)
+value_at-past c x k l = value_at-more c x k ∙ sum_to-past c x (length c + k) (omega arith) ∙ sym (sum_to-past c x k l)
 
 -- the value at x looks only at places up to x
 pub value_same : (c d : List ℕ) (x : ℕ) → ((i : ℕ) → i ≤ x → get_or c i 0 ≡ get_or d i 0) → value_at c x ≡ value_at d x
 value_same c d x h =
-    value_at-past c x (suc x) (omega arith) ∙ sum-to_same c d x (suc x) (λ i l. h i (omega arith)) ∙ sym (value_at-past d x (suc x) (omega arith))
+    value_at-past c x (suc x) (omega arith) ∙ sum_to-same c d x (suc x) (λ i l. h i (omega arith)) ∙ sym (value_at-past d x (suc x) (omega arith))
 
 -- ---- the list of the first values
 pub length-standing : (m : ℕ) (c : List ℕ) (n : ℕ) → length (standing m c n) ≡ n

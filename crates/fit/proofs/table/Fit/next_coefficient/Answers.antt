@@ -4,7 +4,7 @@ use Rattle.modulus.proofs.Bounds.{w-small, power_small}
 use Rattle.poly.specs.Reduced.{value_at}
 use Rattle.poly.proofs.Reports.{no_fit}
 use Rattle.fit.specs.Standing.{power_of}
-use Rattle.fit.proofs.Tables.{rest_to_sum, sum-to_rest}
+use Rattle.fit.proofs.Tables.{rest_to_sum, sum_to_rest}
 use Rattle.fit.proofs.table.Fit.next_coefficient.Goals as goal
 
 pub overflow_cast-result : goal.overflow_cast-result
@@ -33,4 +33,4 @@ returns-in-None c =
     let rest = rest_is c.args.value c.value-m.result c.value_at-sum.result m.value (power_of m) (value_at f.coefficients f.count) c.value-m.ensures.power m.power c.value_at-sum.ensures in
     let some : 0 < power_of m = omega (arith, c.value-m.ensures.above, c.value-m.ensures.power) in
     no_fit m.prime m.exponent m.listed f.coefficients f.count c.args.value f.reduced f.clear
-    (λ d h. c.in-None.ensures d (ap (λ (b : ℕ). (d * factorial f.count) % b) m.power ∙ sum-to_rest (power_of m) (value_at f.coefficients f.count) c.args.value (d * factorial f.count) some h ∙ sym rest))
+    (λ d h. c.in-None.ensures d (ap (λ (b : ℕ). (d * factorial f.count) % b) m.power ∙ sum_to_rest (power_of m) (value_at f.coefficients f.count) c.args.value (d * factorial f.count) some h ∙ sym rest))
