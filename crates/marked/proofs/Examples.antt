@@ -50,7 +50,7 @@ nine : Listed 3 2
 nine = (lit≤ tt, lit≤ tt)
 
 -- ---- the reports: x ^ 2 modulo 8 at four and at five places, x(x − 1) and x ^ 2 modulo 4, x + x(x − 1)(x − 2) modulo 9
-squares : Reported 2 3 (0 ∷ 1 ∷ 4 ∷ 1 ∷ []) (0 ∷ 1 ∷ 1 ∷ 0 ∷ [])
+pub squares : Reported 2 3 (0 ∷ 1 ∷ 4 ∷ 1 ∷ []) (0 ∷ 1 ∷ 1 ∷ 0 ∷ [])
 squares = report 2 3 eight (0 ∷ 1 ∷ 1 ∷ 0 ∷ []) 4 tt (lit≤ tt)
 
 squares_more : Reported 2 3 (0 ∷ 1 ∷ 4 ∷ 1 ∷ 0 ∷ []) (0 ∷ 1 ∷ 1 ∷ 0 ∷ [])

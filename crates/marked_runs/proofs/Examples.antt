@@ -1,49 +1,15 @@
--- The marked examples hold. Assumes nothing.
-use Rattle.std.proofs.Common.{◌≡◌, ℕ, zero, suc, ◌^◌, ◌<◌, ◌≤◌, Bool, T, ltb, List, [], ◌∷◌, length, get_or, set, replicate, pos, sym, refl, subst, le_trans, arith, lit<, lit≤, ltb→lt}
-use native.Mathlib.Decide.{dec_lt}
-use Rattle.std.proofs.lemmas.List.{get_or_past}
-use Rattle.modulus.specs.Moduli.{Listed}
-use Rattle.modulus.specs.Bounds.{w}
+-- The marked examples of plans and runs hold. Assumes nothing.
+use Rattle.std.proofs.Common.{ℕ, zero, suc, ◌<◌, [], ◌∷◌, get_or, set, replicate, pos, refl, arith, lit<, lit≤}
 use Rattle.modulus.proofs.Congruences.{cong_refl}
-use Rattle.modulus.proofs.Primes.{all-below, all-below_at}
-use Rattle.modulus.proofs.Bounds.{w-positive}
 use Rattle.poly.specs.Equivalents.{SamePolynomial, ints}
 use Rattle.poly.specs.Polynomial.{form}
-use Rattle.poly.specs.Reduced.{Reduced, Reported, standing}
-use Rattle.poly.proofs.Reports.{reported}
 use Rattle.element.specs.Rules.{left, endless}
 use Rattle.rack.specs.Runs.{StopsAt, StuckAt, meaning}
 use Rattle.planner.specs.Layout.{ladder, block}
 use Rattle.planner.specs.Plans.{Planned}
 use Rattle.planner.specs.declared.kind.Kind.TheVariants.{Ladder, Block}
+use Rattle.marked.proofs.Examples.{squares}
 use Rattle.marked_runs.specs.Marked.{Marked}
-
--- ---- what a computed test shows
--- every coefficient of c is below the bound of its place
-abbrev within : ℕ → ℕ → List ℕ → Bool
-within p e c = all-below (λ (i : ℕ). ltb (get_or c i 0) (w p e i)) (length c)
-
-reduced : (p e : ℕ) → Listed p e → (c : List ℕ) → T (within p e c) → Reduced p e c
-reduced p e h c t i = go (dec_lt i (length c))
-  where
-    go : Dec (i < length c) → get_or c i 0 < w p e i
-    go (yes l) = ltb→lt (get_or c i 0) (w p e i) (all-below_at (λ (i : ℕ). ltb (get_or c i 0) (w p e i)) (length c) t i l)
-    go (no l) = subst (λ (x : ℕ). x < w p e i) (sym (get_or_past c i 0 (omega arith))) (w-positive p e i h)
-
-clear : (c : List ℕ) (n : ℕ) → length c ≤ n → (i : ℕ) → n ≤ i → get_or c i 0 ≡ 0
-clear c n l i k = get_or_past c i 0 (le_trans l k)
-
--- c is what is reported for its own first n values
-report : (p e : ℕ) → Listed p e → (c : List ℕ) (n : ℕ) → T (within p e c) → length c ≤ n → Reported p e (standing (p ^ e) c n) c
-report p e h c n t l = reported p e h c n (reduced p e h c t) (clear c n l)
-
--- ---- the moduli of the table
-eight : Listed 2 3
-eight = (lit≤ tt, lit≤ tt)
-
--- ---- the report: x ^ 2 modulo 8 at four places
-squares : Reported 2 3 (0 ∷ 1 ∷ 4 ∷ 1 ∷ []) (0 ∷ 1 ∷ 1 ∷ 0 ∷ [])
-squares = report 2 3 eight (0 ∷ 1 ∷ 1 ∷ 0 ∷ []) 4 tt (lit≤ tt)
 
 -- ---- the two plans
 laddered : Planned 2 3 (0 ∷ 1 ∷ 4 ∷ 1 ∷ []) Ladder (ladder 8 (0 ∷ 1 ∷ 1 ∷ 0 ∷ []) 3)

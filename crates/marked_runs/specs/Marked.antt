@@ -7,6 +7,7 @@ use Rattle.planner.specs.declared.kind.Kind.{Kind}
 use Rattle.planner.specs.declared.kind.Kind.TheVariants.{Ladder, Block}
 use Rattle.element.specs.Rules.{left, endless}
 use Rattle.rack.specs.Runs.{Meaning, StopsAt, meaning}
+use Rattle.marked.specs.Marked.{Each}
 
 -- the plan of a kind for values modulo prime ^ exponent: how many steps it has, how many of them multiply, and its depth
 pub record PlanLine : Type 0 where
@@ -48,11 +49,6 @@ abbrev pub Halts : StopLine → Type 0
 Halts t =
     (steps : List Step) × Planned t.prime t.exponent t.values t.kind steps
     × ((after : List Meaning) × StopsAt (t.prime ^ t.exponent) 0 (replicate 3 (meaning [] endless)) steps (meaning (t.lane ∷ []) (left t.level)) t.step after)
-
--- each of a list has the property
-abbrev pub Each : {A : Type 0} → (A → Type 0) → List A → Type 0
-Each P [] = Unit {0}
-Each P (x ∷ xs) = P x × Each P xs
 
 -- every line of the table holds
 pub record Marked : Type 0 where
