@@ -1,5 +1,5 @@
 // A listed modulus, as a type that can hold no other one.
-ghost use Rattle.std.specs.Prelude.{◌≡◌, ℕ, ◌^◌, ◌<◌, ◌≤◌, MatchResult};
+ghost use Rattle.std.specs.Prelude.{◌≡◌, ℕ, ◌-◌, ◌%◌, ◌^◌, ◌<◌, ◌≤◌, MatchResult};
 ghost use Rattle.modulus.specs.Bounds.{Mu, v};
 ghost use Rattle.modulus.specs.Moduli.{Listed, greatest};
 
@@ -121,6 +121,15 @@ impl Modulus {
         ensures small { result ≤ 65536 }
     {
         self.value
+    }
+
+    // −i modulo p ^ e.
+    pub fn negative(&self, i: u32) -> u32
+        ensures is { result ≡ (self.now.value - i % self.now.value) % self.now.value }
+        ensures below { result < self.now.value }
+    {
+        let m = self.value();
+        (m - i % m) % m
     }
 
     // μ, at most 52: from this place on every bound is 1.
