@@ -21,6 +21,10 @@ power_small p (suc k) le =
     let g : 1 ≤ greatest p = omega arith in
     le_trans (pow-le-pow_right (omega (arith, (prime p g).above)) le) (greatest-power p g)
 
+-- so it fits the machine's numbers
+pub power_fits : (p k : ℕ) → k ≤ greatest p → p ^ k < 2 ^ 32
+power_fits p k le = omega (arith, power_small p k le)
+
 pub prime-small : (p : ℕ) → 1 ≤ greatest p → p ≤ 17
 prime-small = by_prime (λ (p : ℕ). p ≤ 17) (lit≤ tt) (lit≤ tt) (lit≤ tt) (lit≤ tt) (lit≤ tt) (lit≤ tt) (lit≤ tt)
 

@@ -1,7 +1,8 @@
 -- What the proofs know of the listed primes: that there are seven, that p ^ e stays below 65,537, and that what p does not divide has an inverse.
 -- Assumes nothing.
-use Rattle.std.proofs.Common.{◌≡◌, ℕ, zero, suc, ◌-◌, ◌*◌, ◌%◌, ◌^◌, ◌<◌, ◌≤◌, Bool, true, false, cond, T, eqb, ℤ, pos, ◌+ℤ◌, ◌-ℤ◌, ◌*ℤ◌, neg_ℤ, sym, refl, ap, ◌∙◌, subst, pow-suc, arith, lit<, eqb→eq}
-use native.Mathlib.Nat.{pow-zero}
+use Rattle.std.proofs.Common.{◌≡◌, ℕ, zero, suc, ◌-◌, ◌*◌, ◌%◌, ◌^◌, ◌<◌, ◌≤◌, Bool, true, false, cond, T, eqb, ℤ, pos, ◌+ℤ◌, ◌-ℤ◌, ◌*ℤ◌, neg_ℤ, sym, refl, ap, ◌∙◌, subst, mod-lt, lt_of_le_of_lt, pow-suc, arith, lit<, eqb→eq}
+use native.Mathlib.Nat.{pow-zero, pow-le-pow_left}
+use Rattle.std.proofs.lemmas.Nat.{mul-mod_first}
 use native.Mathlib.Decide.{ℕ_discrete}
 use Rattle.modulus.specs.Congruence.{Cong}
 use Rattle.modulus.specs.Moduli.{greatest}
@@ -65,6 +66,19 @@ from_test p h t = record { above = h; inverse = at }
 
 pub prime : (p : ℕ) → 1 ≤ greatest p → Prime p
 prime = by_prime Prime (from_test 2 (lit< tt) tt) (from_test 3 (lit< tt) tt) (from_test 5 (lit< tt) tt) (from_test 7 (lit< tt) tt) (from_test 11 (lit< tt) tt) (from_test 13 (lit< tt) tt) (from_test 17 (lit< tt) tt)
+
+-- u ^ (p − 2) inverts u
+pub inverse_is : (p u : ℕ) → 1 ≤ greatest p → 0 < u % p → (u * ((u % p) ^ (p - 2) % p)) % p ≡ 1
+inverse_is p u h some =
+    let P : Prime p = prime p h in
+    sym (mul-mod_first u ((u % p) ^ (p - 2) % p) p) ∙ P.inverse (u % p) some (mod-lt u (omega (arith, P.above)))
+
+-- and needs 64 bits
+pub inverse_fits : (p u : ℕ) → 1 ≤ greatest p → (u % p) ^ (p - 2) < 2 ^ 64
+inverse_fits p u h =
+    let P : Prime p = prime p h in
+    let small : u % p ≤ p = omega arith in
+    lt_of_le_of_lt (pow-le-pow_left small (p - 2)) (by_prime (λ (p : ℕ). p ^ (p - 2) < 2 ^ 64) (lit< tt) (lit< tt) (lit< tt) (lit< tt) (lit< tt) (lit< tt) (lit< tt) p h)
 
 -- u has an inverse modulo m
 pub record Inverse (m : ℕ) (u : ℤ) : Type 0 where

@@ -6,10 +6,10 @@ pub invariant_of-result : goal.invariant_of-result
 invariant_of-result c =
     let p = c.args.p in
     let e = c.args.e in
-    let is = sym c.power.ensures in
+    let is = sym c.pow.ensures in
     record {
       listed = c.requires;
-      power = c.power.ensures;
+      power = c.pow.ensures;
       least = c.open_places.ensures;
       above = (listed-prime p e c.requires).above;
       large = subst (λ (n : ℕ). 1 < n) is (above_one p e c.requires);
