@@ -86,6 +86,9 @@ above_one p (suc e) h =
     let least : p ^ 1 ≤ p ^ suc e = pow-le-pow_right (omega (arith, P.above)) (omega arith) in
     omega (arith, P.above, power_one p)
 
+pub prime_of : (m : Modulus) → Prime m.prime
+prime_of m = listed-prime m.prime m.exponent m.listed
+
 -- what holds of a modulus' own numbers holds of the p and e that it was made from
 pub at_modulus : (P : ℕ → ℕ → ℕ → Type 0) (m : Modulus) (p e : ℕ) → m.prime ≡ p → m.exponent ≡ e → P m.value m.prime m.exponent → P (p ^ e) p e
 at_modulus P m p e hp he h =

@@ -2,11 +2,12 @@
 -- Assumes nothing.
 use Rattle.std.proofs.Common.{◌≡◌, ℕ, zero, suc, ◌+◌, ◌-◌, ◌*◌, ◌/◌, ◌%◌, ◌^◌, ◌<◌, ◌≤◌, min, ℤ, pos, ◌+ℤ◌, ◌-ℤ◌, ◌*ℤ◌, neg_ℤ, sym, ap, ◌∙◌, subst, mul-le-mul, pow-suc, arith, pow-add}
 use Prim.Native.Nat.{◌∣◌}
-use native.Mathlib.Nat.{dvd-mul_right, mod-eq-zero_of_dvd, dvd-mul_left_of_dvd, div-add-mod, mul-div_cancel_left, mod-mod}
+use native.Mathlib.Nat.{dvd-mul_right, dvd-mul_left, mod-eq-zero_of_dvd, dvd-mul_left_of_dvd, div-add-mod, mul-div_cancel_left, mod-mod, add-mod-mod, mod-mod_of_dvd}
 use Rattle.modulus.specs.Congruence.{Cong}
+use Rattle.modulus.specs.declared.listed.Modulus.{Modulus}
 use Rattle.modulus.specs.Bounds.{factorial, exponent, v}
 use Rattle.modulus.proofs.Integers.{zring, zlin}
-use Rattle.modulus.proofs.Congruences.{cong_refl, cong_path, cong_sym, cong_trans, cong_mul, cong_mod, cong_from_mod, mod_from_cong, cong_less, cong_factor, cong_lower, cong_scale}
+use Rattle.modulus.proofs.Congruences.{cong_refl, cong_path, cong_sym, cong_trans, cong_mul, cong_mod, cong_from_mod, mod_from_cong, cong_less, cong_lower, cong_scale}
 use Rattle.modulus.proofs.Primes.{Prime, Inverse}
 use Rattle.modulus.proofs.Exponents.{factorial-parts, power_positive, unit_not_divided, cancel_left}
 
@@ -48,8 +49,7 @@ unit_step p P i rest e =
 -- p divides p ^ e, so remainders by p ^ e keep the remainder by p
 pub mod_prime : (p e n : ℕ) → 1 ≤ e → (n % p ^ e) % p ≡ n % p
 mod_prime p zero n h = absurd (omega arith)
-mod_prime p (suc e) n h =
-    mod_from_cong (cong_sym (cong_factor (p ^ e) (subst (λ (m : ℕ). Cong m (pos n) (pos (n % p ^ suc e))) (pow-suc p e) (cong_mod (p ^ suc e) n))))
+mod_prime p (suc e) n h = mod-mod_of_dvd p n (rw pow-suc (dvd-mul_left p (p ^ e)))
 
 pub unit_left : (p e : ℕ) → Prime p → 1 ≤ e → (i : ℕ) → 0 < (unit p i % p ^ e) % p
 unit_left p e P h i = rw (mod_prime p e (unit p i) h) (unit_not_divided p (unit p i) P.above (unit_inverse p P i))
@@ -75,19 +75,26 @@ doubled p j x h =
 regroup_ring : (u r z : ℤ) → u *ℤ (r *ℤ z) ≡ u *ℤ r *ℤ z
 regroup_ring u r z = simp zring
 
--- the code's r·((2 + (m − u·r mod m)) mod m) mod m
-pub inverse_round : (p e j u r : ℕ) → j < e → 0 < p ^ e → Cong (p ^ j) (pos (u * r)) (pos 1)
-    → Cong (p ^ min (j * 2) e) (pos (u * ((r * ((2 + (p ^ e - (u * r) % p ^ e)) % p ^ e)) % p ^ e))) (pos 1)
-inverse_round p e j u r lt some h =
-    let m : ℕ = p ^ e in
-    let s : ℕ = 2 + (m - (u * r) % m) in
-    let two : Cong m (pos s) (pos 2 -ℤ pos (u * r)) = cong_less m 2 (u * r) some in
-    let inner : Cong m (pos ((r * (s % m)) % m)) (pos r *ℤ (pos 2 -ℤ pos (u * r))) =
-    cong_trans (cong_sym (cong_mod m (r * (s % m)))) (cong_mul (cong_refl m (pos r)) (cong_trans (cong_sym (cong_mod m s)) two)) in
-    let all : Cong m (pos (u * ((r * (s % m)) % m))) (pos (u * r) *ℤ (pos 2 -ℤ pos (u * r))) =
-    cong_trans (cong_mul (cong_refl m (pos u)) inner) (cong_path m (regroup_ring (pos u) (pos r) (pos 2 -ℤ pos (u * r)))) in
-    let k : ℕ = min (j * 2) e in
-    cong_trans (cong_down p e k (omega arith) all) (cong_down p (j + j) k (omega arith) (doubled p j (pos (u * r)) h))
+-- the code's r·((2 + n) mod m) mod m, where n is −u·r
+pub inverse_round : (m : Modulus) (j u r n : ℕ) → j < m.exponent → n ≡ (m.value - (u * r) % m.value) % m.value
+    → Cong (m.prime ^ min j m.exponent) (pos (u * r)) (pos 1)
+    → Cong (m.prime ^ min (j * 2) m.exponent) (pos (u * ((r * ((2 + n) % m.value)) % m.value))) (pos 1)
+inverse_round m j u r n lt is h =
+    let k : ℕ = m.value in
+    let x : ℕ = u * r in
+    let s : ℕ = 2 + (k - x % k) in
+    let less : (2 + n) % k ≡ s % k = ap (λ (y : ℕ). (2 + y) % k) is ∙ add-mod-mod 2 (k - x % k) k in
+    let two : Cong k (pos ((2 + n) % k)) (pos 2 -ℤ pos x) =
+    cong_trans (cong_path k (ap pos less)) (cong_trans (cong_sym (cong_mod k s)) (cong_less k 2 x (omega (arith, m.large)))) in
+    let inner : Cong k (pos ((r * ((2 + n) % k)) % k)) (pos r *ℤ (pos 2 -ℤ pos x)) =
+    cong_trans (cong_sym (cong_mod k (r * ((2 + n) % k)))) (cong_mul (cong_refl k (pos r)) two) in
+    let all : Cong k (pos (u * ((r * ((2 + n) % k)) % k))) (pos x *ℤ (pos 2 -ℤ pos x)) =
+    cong_trans (cong_mul (cong_refl k (pos u)) inner) (cong_path k (regroup_ring (pos u) (pos r) (pos 2 -ℤ pos x))) in
+    let whole = subst (λ (b : ℕ). Cong b (pos (u * ((r * ((2 + n) % k)) % k))) (pos x *ℤ (pos 2 -ℤ pos x))) m.power all in
+    let same : min j m.exponent ≡ j = omega arith in
+    let right : Cong (m.prime ^ j) (pos x) (pos 1) = subst (λ (i : ℕ). Cong (m.prime ^ i) (pos x) (pos 1)) same h in
+    let next : ℕ = min (j * 2) m.exponent in
+    cong_trans (cong_down m.prime m.exponent next (omega arith) whole) (cong_down m.prime (j + j) next (omega arith) (doubled m.prime j (pos x) right))
 
 -- ---- which numbers can be divided by i!
 -- where p ^ v divides n and m, a multiple of n agrees modulo m only with multiples of p ^ v

@@ -70,7 +70,7 @@ fn inverse(modulus: &Modulus, u: u32) -> u32
     let mut r = inverse_modulo_prime(modulus.prime(), u);
     let mut right = 1;
     while right < modulus.exponent() {
-        r = r * ((2 + (m - u * r % m)) % m) % m;
+        r = r * ((2 + modulus.negative(u * r)) % m) % m;
         right *= 2;
     }
     r
@@ -115,6 +115,7 @@ fn divide_past(modulus: &Modulus, i: u32, rest: u32) -> Option<u32>
 }
 
 // The same before place μ: the power of p in i! has to divide the rest, and what is left of i! has an inverse.
+#[tactic(auto, using(crate::proofs::Exponents::power_positive))]
 fn divide_before(modulus: &Modulus, i: u32, rest: u32) -> Option<u32>
     requires { i < modulus.now.mu }
     ensures { Quotient modulus.now i rest result }

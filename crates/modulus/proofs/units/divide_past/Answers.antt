@@ -5,7 +5,7 @@ use Rattle.std.proofs.lemmas.Bool.{eqb-true, eqb-false}
 use Rattle.modulus.specs.declared.listed.Modulus.{Modulus}
 use Rattle.modulus.specs.Bounds.{factorial, v}
 use Rattle.modulus.specs.Quotient.{Quotient}
-use Rattle.modulus.proofs.Bounds.{listed-prime, w-positive, v-mono}
+use Rattle.modulus.proofs.Bounds.{w-positive, v-mono, prime_of}
 use Rattle.modulus.proofs.Division.{never}
 use Rattle.modulus.proofs.units.divide_past.Goals as goal
 
@@ -14,7 +14,7 @@ past : (m : Modulus) (i rest : ℕ) → m.mu ≤ i → (even : Bool) → eqb (re
 past m i rest le true e = (w-positive m.prime m.exponent i m.listed, ap (λ (n : ℕ). n % m.value) (zero-mul (factorial i)) ∙ zero-mod m.value ∙ sym (eqb-true (rest % m.value) 0 e))
 past m i rest le false e =
     let reached : m.exponent ≤ v m.prime i = omega (arith, m.least.0, v-mono m.prime m.mu i le) in
-    never m.prime m.exponent m.value i m.exponent rest (listed-prime m.prime m.exponent m.listed) m.power (omega arith) reached
+    never m.prime m.exponent m.value i m.exponent rest (prime_of m) m.power (omega arith) reached
     (λ h. eqb-false (rest % m.value) 0 e (sym (mod-mod rest m.value) ∙ ap (λ (n : ℕ). (rest % m.value) % n) m.power ∙ h))
 
 pub returns : goal.returns
