@@ -28,10 +28,8 @@ impl Fit {
         let m = self.modulus.value();
         let sum = self.value_at(self.count as u16);
         let rest = (value + (m - sum)) % m;
-        match self.modulus.divide_by_factorial(self.count, rest) {
-            Some(c) => Some(c as u16),
-            None => None,
-        }
+        let c = self.modulus.divide_by_factorial(self.count, rest)?;
+        Some(c as u16)
     }
 
     // One coefficient more. Past the last place it is 0, which needs no memory.
@@ -70,9 +68,9 @@ impl Fit {
         ensures cases { MatchResult result (λ a. Offered self.old.modulus.prime self.old.modulus.exponent (stands self.old) value a.place a.coefficient × (stands self.new ≡ stands self.old ++ value ∷ [])) (λ f. NoOffer (power_of self.old.modulus) (stands self.old) value f × (self.new ≡ self.old)) }
     {
         let place = self.count as usize;
-        let Some(coefficient) = self.next_coefficient(value) else {
-            return Err(Refusal::NoPolynomial { place });
-        };
+        let coefficient = self
+            .next_coefficient(value)
+            .ok_or(Refusal::NoPolynomial { place })?;
         self.append(coefficient);
         Ok(Accepted { place, coefficient })
     }

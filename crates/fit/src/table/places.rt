@@ -21,6 +21,6 @@ impl Fit {
         ensures { result ≡ value_at self.now.coefficients x % power_of self.now.modulus }
     {
         let mu = self.modulus.mu() as usize;
-        evaluate(&self.modulus, &self.coefficients[0..mu], x)
+        evaluate(&self.modulus, &self.coefficients[..mu], x)
     }
 }
