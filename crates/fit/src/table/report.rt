@@ -8,7 +8,7 @@ use modulus::listed::PLACES;
 use modulus::refusal::{Refusal, check_room};
 
 impl Fit {
-    // All coefficients.
+    // All coefficients. Apart from `form`, whose proof then stands on this promise alone, with no lemma on the coefficients of one fit.
     fn all_places(&self) -> [u16; PLACES]
         ensures { Reported self.now.modulus.prime self.now.modulus.exponent (stands self.now) result }
     {
