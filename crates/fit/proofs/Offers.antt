@@ -1,5 +1,5 @@
 -- What one coefficient more, and one less, makes of a fit. Assumes nothing.
-use Rattle.std.proofs.Common.{◌≡◌, ℕ, suc, ◌+◌, ◌*◌, ◌%◌, ◌^◌, ◌<◌, ◌≤◌, List, [], ◌∷◌, ◌++◌, length, get_or, pos, sym, refl, ap, ◌∙◌, subst, add-one, arith}
+use Rattle.std.proofs.Common.{◌≡◌, ℕ, suc, ◌+◌, ◌*◌, ◌%◌, ◌^◌, ◌<◌, ◌≤◌, List, [], ◌∷◌, ◌++◌, length, get_or, take, pos, sym, refl, ap, ◌∙◌, subst, add-one, arith}
 use native.Mathlib.Decide.{dec_le, ℕ_discrete}
 use Rattle.modulus.specs.Bounds.{factorial}
 use Rattle.modulus.specs.Congruence.{Cong}
@@ -7,7 +7,7 @@ use Rattle.modulus.specs.declared.listed.Modulus.{Modulus}
 use Rattle.poly.specs.Polynomial.{Fits}
 use Rattle.poly.specs.Reduced.{Reported, standing, value_at}
 use Rattle.poly.proofs.Reports.{extended, fits-standing, reported}
-use Rattle.poly.proofs.Standing.{length-standing, standing-same}
+use Rattle.poly.proofs.Standing.{length-standing, standing-same, front_same}
 use Rattle.modulus.specs.declared.refusal.Refusal.{Refusal}
 use Rattle.modulus.specs.declared.refusal.Refusal.TheVariants.{TooLarge, Full, NoPolynomial}
 use Rattle.fit.specs.Rules.{NoOffer, full, large, unfit, Offered}
@@ -69,6 +69,10 @@ reports f cs same =
     let m = f.modulus in
     subst (λ (ys : List ℕ). Reported m.prime m.exponent ys cs) (standing-same (power_of m) cs f.coefficients f.count (λ i _. same i))
     (reported m.prime m.exponent m.listed cs f.count (λ i. rw (same i) (f.reduced i)) (λ i le. same i ∙ f.clear i le))
+
+-- so the front that is as long as a report does
+pub front_reports : (f : Fit) (n : ℕ) → n ≡ report_length f → Reported f.modulus.prime f.modulus.exponent (stands f) (take n f.coefficients)
+front_reports f n e = reports f (take n f.coefficients) (front_same f.coefficients n (past-report f n e))
 
 -- ---- the refusals of an offer to a fit
 is-full : (m n y : ℕ) (ys : List ℕ) → length ys ≡ n → n ≡ m → NoOffer m ys y (Full n)

@@ -21,8 +21,9 @@ power_small p (suc k) le =
     let g : 1 ≤ greatest p = omega arith in
     le_trans (pow-le-pow_right (omega (arith, (prime p g).above)) le) (greatest-power p g)
 
-pub prime-small : (p : ℕ) → 1 ≤ greatest p → p ≤ 17
-prime-small = by_prime (λ (p : ℕ). p ≤ 17) (lit≤ tt) (lit≤ tt) (lit≤ tt) (lit≤ tt) (lit≤ tt) (lit≤ tt) (lit≤ tt)
+-- so it fits the machine's numbers
+pub power_fits : (p k : ℕ) → k ≤ greatest p → p ^ k < 2 ^ 32
+power_fits p k le = omega (arith, power_small p k le)
 
 pub greatest-small : (p : ℕ) → 1 ≤ greatest p → greatest p ≤ 16
 greatest-small = by_prime (λ (p : ℕ). greatest p ≤ 16) (lit≤ tt) (lit≤ tt) (lit≤ tt) (lit≤ tt) (lit≤ tt) (lit≤ tt) (lit≤ tt)
@@ -81,6 +82,9 @@ above_one p (suc e) h =
     let P = listed-prime p (suc e) h in
     let least : p ^ 1 ≤ p ^ suc e = pow-le-pow_right (omega (arith, P.above)) (omega arith) in
     omega (arith, P.above, power_one p)
+
+pub prime_of : (m : Modulus) → Prime m.prime
+prime_of m = listed-prime m.prime m.exponent m.listed
 
 -- what holds of a modulus' own numbers holds of the p and e that it was made from
 pub at_modulus : (P : ℕ → ℕ → ℕ → Type 0) (m : Modulus) (p e : ℕ) → m.prime ≡ p → m.exponent ≡ e → P m.value m.prime m.exponent → P (p ^ e) p e

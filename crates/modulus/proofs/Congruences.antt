@@ -111,12 +111,9 @@ cong_cancel {m} {a} {b} k l h =
     record { times = h.times; is = *ℤ-cancel a (b +ℤ h.times *ℤ pos m) k l (h.is ∙ pull_ring b h.times (pos m) (pos k)) }
 
 -- and put back
-scale_ring : (b t m k : ℤ) → (b +ℤ t *ℤ m) *ℤ k ≡ b *ℤ k +ℤ t *ℤ (m *ℤ k)
-scale_ring b t m k = simp zring
-
 pub cong_scale : {m : ℕ} {a b : ℤ} (k : ℕ) → Cong m a b → Cong (m * k) (a *ℤ pos k) (b *ℤ pos k)
 cong_scale {m} {a} {b} k h =
-    record { times = h.times; is = ap (λ (z : ℤ). z *ℤ pos k) h.is ∙ scale_ring b h.times (pos m) (pos k) }
+    record { times = h.times; is = ap (λ (z : ℤ). z *ℤ pos k) h.is ∙ sym (pull_ring b h.times (pos m) (pos k)) }
 
 -- p ^ n is cancelled modulo p ^ e: what is left agrees modulo p ^ (e - n)
 pub cong_cancel_power : {a b : ℤ} (p e n : ℕ) → 0 < p → Cong (p ^ e) (a *ℤ pos (p ^ n)) (b *ℤ pos (p ^ n)) → Cong (p ^ (e - n)) a b

@@ -2,20 +2,18 @@
 -- Assumes nothing.
 use Rattle.std.proofs.Common.{◌≡◌, ℕ, zero, suc, ◌+◌, ◌-◌, ◌*◌, ◌/◌, ◌%◌, ◌^◌, ◌<◌, ◌≤◌, min, ℤ, pos, ◌+ℤ◌, ◌-ℤ◌, ◌*ℤ◌, neg_ℤ, sym, ap, ◌∙◌, subst, mul-le-mul, pow-suc, arith, pow-add}
 use Prim.Native.Nat.{◌∣◌}
-use native.Mathlib.Nat.{dvd-mul_right, mod-eq-zero_of_dvd, dvd-mul_left_of_dvd, div-add-mod, mul-div_cancel_left, mod-mod}
+use native.Mathlib.Nat.{dvd-mul_right, dvd-mul_left, mod-eq-zero_of_dvd, dvd-mul_left_of_dvd, div-add-mod, mul-div_cancel_left, mod-mod, add-mod-mod, mod-mod_of_dvd, eq_of_mul-eq-mul_left}
+use Rattle.std.proofs.lemmas.Nat.{mul-mod_first}
 use Rattle.modulus.specs.Congruence.{Cong}
+use Rattle.modulus.specs.declared.listed.Modulus.{Modulus}
 use Rattle.modulus.specs.Bounds.{factorial, exponent, v}
-use Rattle.modulus.proofs.Integers.{zring, zlin}
-use Rattle.modulus.proofs.Congruences.{cong_refl, cong_path, cong_sym, cong_trans, cong_mul, cong_mod, cong_from_mod, mod_from_cong, cong_less, cong_factor, cong_lower, cong_scale}
+use Rattle.modulus.proofs.Integers.{zring, zlin, *ℤ-assoc}
+use Rattle.modulus.proofs.Congruences.{cong_refl, cong_path, cong_sym, cong_trans, cong_mul, cong_mod, cong_from_mod, mod_from_cong, cong_less, cong_lower, cong_scale}
 use Rattle.modulus.proofs.Primes.{Prime, Inverse}
-use Rattle.modulus.proofs.Exponents.{factorial-parts, power_positive, unit_not_divided, cancel_left}
-
--- ---- remainders of products
-pub mul_mod : (m a b : ℕ) → (a % m * (b % m)) % m ≡ (a * b) % m
-mul_mod m a b = mod_from_cong (cong_mul (cong_sym (cong_mod m a)) (cong_sym (cong_mod m b)))
+use Rattle.modulus.proofs.Exponents.{factorial-parts, power_positive, unit_not_divided}
 
 pub mul_mod_left : (m a b : ℕ) → (a % m * b) % m ≡ (a * b) % m
-mul_mod_left m a b = mod_from_cong (cong_mul (cong_sym (cong_mod m a)) (cong_refl m (pos b)))
+mul_mod_left m a b = mul-mod_first a b m
 
 -- what agrees modulo p ^ e agrees modulo each lower power
 pub cong_down : {a b : ℤ} (p e k : ℕ) → k ≤ e → Cong (p ^ e) a b → Cong (p ^ k) a b
@@ -43,13 +41,12 @@ pub unit_step : (p : ℕ) → Prime p → (i rest : ℕ) → suc i ≡ p ^ expon
 unit_step p P i rest e =
     let whole : p ^ v p (suc i) * unit p (suc i) ≡ p ^ v p (suc i) * (unit p i * rest) =
     sym (unit_is p P (suc i)) ∙ ap (λ (n : ℕ). n * factorial i) e ∙ ap (λ (n : ℕ). p ^ exponent p (suc i) * rest * n) (unit_is p P i) ∙ rw pow-add (omega arith) in
-    cancel_left (p ^ v p (suc i)) (unit p (suc i)) (unit p i * rest) (power_positive p (v p (suc i)) P.above) whole
+    eq_of_mul-eq-mul_left (p ^ v p (suc i)) (power_positive p (v p (suc i)) P.above) (unit p (suc i)) (unit p i * rest) whole
 
 -- p divides p ^ e, so remainders by p ^ e keep the remainder by p
 pub mod_prime : (p e n : ℕ) → 1 ≤ e → (n % p ^ e) % p ≡ n % p
 mod_prime p zero n h = absurd (omega arith)
-mod_prime p (suc e) n h =
-    mod_from_cong (cong_sym (cong_factor (p ^ e) (subst (λ (m : ℕ). Cong m (pos n) (pos (n % p ^ suc e))) (pow-suc p e) (cong_mod (p ^ suc e) n))))
+mod_prime p (suc e) n h = mod-mod_of_dvd p n (rw pow-suc (dvd-mul_left p (p ^ e)))
 
 pub unit_left : (p e : ℕ) → Prime p → 1 ≤ e → (i : ℕ) → 0 < (unit p i % p ^ e) % p
 unit_left p e P h i = rw (mod_prime p e (unit p i) h) (unit_not_divided p (unit p i) P.above (unit_inverse p P i))
@@ -72,22 +69,26 @@ doubled : (p j : ℕ) (x : ℤ) → Cong (p ^ j) x (pos 1) → Cong (p ^ (j + j)
 doubled p j x h =
     rw pow-add (record { times = neg_ℤ (h.times *ℤ h.times); is = square x h.times (pos (p ^ j)) h.is })
 
-regroup_ring : (u r z : ℤ) → u *ℤ (r *ℤ z) ≡ u *ℤ r *ℤ z
-regroup_ring u r z = simp zring
-
--- the code's r·((2 + (m − u·r mod m)) mod m) mod m
-pub inverse_round : (p e j u r : ℕ) → j < e → 0 < p ^ e → Cong (p ^ j) (pos (u * r)) (pos 1)
-    → Cong (p ^ min (j * 2) e) (pos (u * ((r * ((2 + (p ^ e - (u * r) % p ^ e)) % p ^ e)) % p ^ e))) (pos 1)
-inverse_round p e j u r lt some h =
-    let m : ℕ = p ^ e in
-    let s : ℕ = 2 + (m - (u * r) % m) in
-    let two : Cong m (pos s) (pos 2 -ℤ pos (u * r)) = cong_less m 2 (u * r) some in
-    let inner : Cong m (pos ((r * (s % m)) % m)) (pos r *ℤ (pos 2 -ℤ pos (u * r))) =
-    cong_trans (cong_sym (cong_mod m (r * (s % m)))) (cong_mul (cong_refl m (pos r)) (cong_trans (cong_sym (cong_mod m s)) two)) in
-    let all : Cong m (pos (u * ((r * (s % m)) % m))) (pos (u * r) *ℤ (pos 2 -ℤ pos (u * r))) =
-    cong_trans (cong_mul (cong_refl m (pos u)) inner) (cong_path m (regroup_ring (pos u) (pos r) (pos 2 -ℤ pos (u * r)))) in
-    let k : ℕ = min (j * 2) e in
-    cong_trans (cong_down p e k (omega arith) all) (cong_down p (j + j) k (omega arith) (doubled p j (pos (u * r)) h))
+-- the code's r·((2 + n) mod m) mod m, where n is −u·r
+pub inverse_round : (m : Modulus) (j u r n : ℕ) → j < m.exponent → n ≡ (m.value - (u * r) % m.value) % m.value
+    → Cong (m.prime ^ min j m.exponent) (pos (u * r)) (pos 1)
+    → Cong (m.prime ^ min (j * 2) m.exponent) (pos (u * ((r * ((2 + n) % m.value)) % m.value))) (pos 1)
+inverse_round m j u r n lt is h =
+    let k : ℕ = m.value in
+    let x : ℕ = u * r in
+    let s : ℕ = 2 + (k - x % k) in
+    let less : (2 + n) % k ≡ s % k = ap (λ (y : ℕ). (2 + y) % k) is ∙ add-mod-mod 2 (k - x % k) k in
+    let two : Cong k (pos ((2 + n) % k)) (pos 2 -ℤ pos x) =
+    cong_trans (cong_path k (ap pos less)) (cong_trans (cong_sym (cong_mod k s)) (cong_less k 2 x (omega (arith, m.large)))) in
+    let inner : Cong k (pos ((r * ((2 + n) % k)) % k)) (pos r *ℤ (pos 2 -ℤ pos x)) =
+    cong_trans (cong_sym (cong_mod k (r * ((2 + n) % k)))) (cong_mul (cong_refl k (pos r)) two) in
+    let all : Cong k (pos (u * ((r * ((2 + n) % k)) % k))) (pos x *ℤ (pos 2 -ℤ pos x)) =
+    cong_trans (cong_mul (cong_refl k (pos u)) inner) (cong_path k (sym (*ℤ-assoc (pos u) (pos r) (pos 2 -ℤ pos x)))) in
+    let whole = subst (λ (b : ℕ). Cong b (pos (u * ((r * ((2 + n) % k)) % k))) (pos x *ℤ (pos 2 -ℤ pos x))) m.power all in
+    let same : min j m.exponent ≡ j = omega arith in
+    let right : Cong (m.prime ^ j) (pos x) (pos 1) = subst (λ (i : ℕ). Cong (m.prime ^ i) (pos x) (pos 1)) same h in
+    let next : ℕ = min (j * 2) m.exponent in
+    cong_trans (cong_down m.prime m.exponent next (omega arith) whole) (cong_down m.prime (j + j) next (omega arith) (doubled m.prime j (pos x) right))
 
 -- ---- which numbers can be divided by i!
 -- where p ^ v divides n and m, a multiple of n agrees modulo m only with multiples of p ^ v
@@ -97,9 +98,6 @@ no_quotient p e k n rest d le div h =
 
 scale_ring : (q s g u : ℤ) → (q *ℤ s) *ℤ g *ℤ u ≡ (q *ℤ g) *ℤ (u *ℤ s)
 scale_ring q s g u = simp zring
-
-group_ring : (a g u : ℤ) → a *ℤ (g *ℤ u) ≡ a *ℤ g *ℤ u
-group_ring a g u = simp zring
 
 -- q·s modulo p ^ (e − k) is the quotient of q·p ^ k by p ^ k·u, where s inverts u
 pub quotient_is : (p e k u s q : ℕ) → k ≤ e → Cong (p ^ e) (pos (u * s)) (pos 1)
@@ -112,7 +110,7 @@ quotient_is p e k u s q le inv =
     let near : Cong (b * g) (pos c *ℤ pos g) (pos (q * s) *ℤ pos g) = cong_scale g (cong_sym (cong_mod b (q * s))) in
     let wide : Cong (p ^ e) (pos c *ℤ pos g) (pos (q * s) *ℤ pos g) = subst (λ (m : ℕ). Cong m (pos c *ℤ pos g) (pos (q * s) *ℤ pos g)) whole near in
     let turned : Cong (p ^ e) (pos (c * (g * u))) (pos (q * s) *ℤ pos g *ℤ pos u) =
-    cong_trans (cong_path (p ^ e) (group_ring (pos c) (pos g) (pos u))) (cong_mul wide (cong_refl (p ^ e) (pos u))) in
+    cong_trans (cong_path (p ^ e) (sym (*ℤ-assoc (pos c) (pos g) (pos u)))) (cong_mul wide (cong_refl (p ^ e) (pos u))) in
     let one : q * g * 1 ≡ q * g = omega arith in
     cong_trans turned
     (cong_trans (cong_path (p ^ e) (scale_ring (pos q) (pos s) (pos g) (pos u)))

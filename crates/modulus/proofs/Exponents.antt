@@ -3,30 +3,22 @@
 --     factorial-parts      i! is p ^ v(i) times a unit
 --     exponent-is          v(i) is the exponent of p in i!
 -- Assumes nothing.
-use Rattle.std.proofs.Common.{◌≡◌, ℕ, zero, suc, ◌+◌, ◌-◌, ◌*◌, ◌/◌, ◌%◌, ◌^◌, ◌<◌, ◌≤◌, pos, sym, refl, ap, ◌∙◌, subst, mod-lt, pow-suc, arith, pow-add}
+use Rattle.std.proofs.Common.{◌≡◌, ℕ, zero, suc, ◌+◌, ◌-◌, ◌*◌, ◌/◌, ◌%◌, ◌^◌, ◌<◌, ◌≤◌, pos, sym, refl, ap, ◌∙◌, subst, mod-eq_of_lt, pow-suc, arith, pow-add}
 use mathlib.Core.Logic.{∥∥₁_elim}
 use mathlib.Core.HLevel.{⊥_prop}
 use Prim.Native.Nat.{◌∣◌}
-use native.Mathlib.Nat.{zero-mod, pow-zero, div-add-mod, mul-mod_right, div-lt_self, dvd-mul_right, mul-div_cancel_left}
+use native.Mathlib.Nat.{zero-mod, pow-zero, div-add-mod, mul-mod_right, div-lt_self, dvd-mul_right, one-le-pow, eq_of_mul-eq-mul_left}
 use lib.IntN.{zero-*ℤ}
 use Rattle.modulus.specs.Congruence.{Cong}
 use Rattle.modulus.specs.Bounds.{Exponent, factorial, more, exponent_within, exponent, v}
 use Rattle.modulus.proofs.Congruences.{cong_refl, cong_path, cong_sym, cong_trans, cong_mul, cong_from_mod, same-from_cong}
-use Rattle.modulus.proofs.Primes.{Prime, Inverse, inverse_product}
+use Rattle.modulus.proofs.Primes.{Prime, Inverse, inverse_is, inverse_product}
 
 -- what p does not divide has an inverse modulo p
 pub residue_inverse : (p : ℕ) → Prime p → (u : ℕ) → 0 < u % p → Inverse p (pos u)
 residue_inverse p P u h =
-    let r : ℕ = u % p in
-    let s : ℕ = r ^ (p - 2) % p in
-    let q : ℕ = u / p in
-    let k : ℕ = (r * s) / p in
-    let lt : r < p = mod-lt u (omega (arith, P.above)) in
-    let one : (r * s) % p ≡ 1 = P.inverse r h lt in
-    let whole : p * k + (r * s) % p ≡ r * s = div-add-mod (r * s) p in
-    let split : p * q + r ≡ u = div-add-mod u p in
-    let times : (p * q + r) * s ≡ u * s = ap (λ (n : ℕ). n * s) split in
-    record { by = pos s; one = record { times = pos (q * s + k); is = ap pos (omega arith) } }
+    let s : ℕ = (u % p) ^ (p - 2) % p in
+    record { by = pos s; one = cong_from_mod p (u * s) 1 (inverse_is p P u h ∙ sym (mod-eq_of_lt P.above)) }
 
 -- what is left of n once p is taken out
 strip : (d p n : ℕ) → 1 < p → 0 < n → n ≤ d → (u : ℕ) × (n ≡ p ^ exponent_within d p n * u) × (0 < u % p)
@@ -55,18 +47,10 @@ part p n above pn = strip n p n above pn (omega arith)
 
 -- ---- two ways to take out p are one
 pub power_positive : (p k : ℕ) → 1 < p → 0 < p ^ k
-power_positive p zero h = rw pow-zero (omega arith)
-power_positive p (suc k) h = rw pow-suc (go (p ^ k) (power_positive p k h))
-  where
-    go : (n : ℕ) → 0 < n → 0 < n * p
-    go zero k = absurd (omega arith)
-    go (suc n) k = omega arith
+power_positive p k h = one-le-pow k p (omega arith)
 
 divided : (p u n : ℕ) → u ≡ p * n → u % p ≡ 0
 divided p u n e = rw e (mul-mod_right p n)
-
-pub cancel_left : (n x y : ℕ) → 0 < n → n * x ≡ n * y → x ≡ y
-cancel_left n x y h e = sym (mul-div_cancel_left x h) ∙ ap (λ (z : ℕ). z / n) e ∙ mul-div_cancel_left y h
 
 pub exponent-unique : (p j k a b : ℕ) → 1 < p → p ^ j * a ≡ p ^ k * b → 0 < a % p → 0 < b % p → j ≡ k
 exponent-unique p zero zero a b above e ha hb = refl
@@ -79,7 +63,7 @@ exponent-unique p (suc j) zero a b above e ha hb =
     let z : b % p ≡ 0 = divided p b (p ^ j * a) (flat ∙ rw pow-suc (omega arith)) in
     absurd (omega arith)
 exponent-unique p (suc j) (suc k) a b above e ha hb =
-    ap suc (exponent-unique p j k a b above (cancel_left p (p ^ j * a) (p ^ k * b) (omega arith) (shift p (p ^ j) (p ^ k) a b (simp pow-suc at e))) ha hb)
+    ap suc (exponent-unique p j k a b above (eq_of_mul-eq-mul_left p (omega arith) (p ^ j * a) (p ^ k * b) (shift p (p ^ j) (p ^ k) a b (simp pow-suc at e))) ha hb)
   where
     shift : (p x y a b : ℕ) → x * p * a ≡ y * p * b → p * (x * a) ≡ p * (y * b)
     shift p x y a b h = omega arith
@@ -131,5 +115,5 @@ exponent-is p P i =
     none : Parts p (factorial i) (v p i) → (c : ℕ) × (factorial i ≡ p ^ suc (v p i) * c) → ⊥
     none h d =
         let both : p ^ v p i * h.unit ≡ p ^ v p i * (p * d.0) = sym h.is ∙ d.1 ∙ rw pow-suc (omega arith) in
-        let left : h.unit ≡ p * d.0 = cancel_left (p ^ v p i) h.unit (p * d.0) (power_positive p (v p i) P.above) both in
+        let left : h.unit ≡ p * d.0 = eq_of_mul-eq-mul_left (p ^ v p i) (power_positive p (v p i) P.above) h.unit (p * d.0) both in
         absurd (omega (arith, divided p h.unit d.0 left, unit_not_divided p h.unit P.above h.inverse))

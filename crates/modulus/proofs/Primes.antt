@@ -1,7 +1,8 @@
 -- What the proofs know of the listed primes: that there are seven, that p ^ e stays below 65,537, and that what p does not divide has an inverse.
 -- Assumes nothing.
-use Rattle.std.proofs.Common.{◌≡◌, ℕ, zero, suc, ◌-◌, ◌*◌, ◌%◌, ◌^◌, ◌<◌, ◌≤◌, Bool, true, false, cond, T, eqb, ℤ, pos, ◌+ℤ◌, ◌-ℤ◌, ◌*ℤ◌, neg_ℤ, sym, refl, ap, ◌∙◌, subst, pow-suc, arith, lit<, eqb→eq}
-use native.Mathlib.Nat.{pow-zero}
+use Rattle.std.proofs.Common.{◌≡◌, ℕ, zero, suc, ◌-◌, ◌*◌, ◌%◌, ◌^◌, ◌<◌, ◌≤◌, Bool, true, false, cond, ◌&&◌, T, eqb, ℤ, pos, ◌+ℤ◌, ◌-ℤ◌, ◌*ℤ◌, neg_ℤ, sym, refl, ap, ◌∙◌, subst, mod-lt, lt_of_le_of_lt, pow-suc, arith, lit<, eqb→eq}
+use native.Mathlib.Nat.{pow-zero, pow-le-pow_left}
+use Rattle.std.proofs.lemmas.Nat.{mul-mod_first}
 use native.Mathlib.Decide.{ℕ_discrete}
 use Rattle.modulus.specs.Congruence.{Cong}
 use Rattle.modulus.specs.Moduli.{greatest}
@@ -23,28 +24,20 @@ by_prime P at2 at3 at5 at7 at11 at13 at17 p =
     at2
 
 -- ---- tests over all numbers below a bound
-abbrev both : Bool → Bool → Bool
-both true b = b
-both false b = false
-
-both_left : (a b : Bool) → T (both a b) → T a
-both_left true b t = tt
-both_left false b t = t
-
-both_right : (a b : Bool) → T (both a b) → T b
-both_right true b t = t
-both_right false b t = absurd t
+both : (a b : Bool) → T (a && b) → T a × T b
+both true b t = (tt, t)
+both false b t = absurd t
 
 abbrev pub all-below : (ℕ → Bool) → ℕ → Bool
 all-below f zero = true
-all-below f (suc n) = both (f n) (all-below f n)
+all-below f (suc n) = f n && all-below f n
 
 pub all-below_at : (f : ℕ → Bool) (n : ℕ) → T (all-below f n) → (k : ℕ) → k < n → T (f k)
 all-below_at f zero t k h = absurd (omega arith)
-all-below_at f (suc n) t k h = go (ℕ_discrete k n) (all-below_at f n (both_right (f n) (all-below f n) t) k)
+all-below_at f (suc n) t k h = go (ℕ_discrete k n) (all-below_at f n ((both (f n) (all-below f n) t).1) k)
   where
     go : Dec (k ≡ n) → (k < n → T (f k)) → T (f k)
-    go (yes e) below = subst (λ (j : ℕ). T (f j)) (sym e) (both_left (f n) (all-below f n) t)
+    go (yes e) below = subst (λ (j : ℕ). T (f j)) (sym e) ((both (f n) (all-below f n) t).0)
     go (no ne) below = below (omega arith)
 
 -- ---- inverses
@@ -65,6 +58,18 @@ from_test p h t = record { above = h; inverse = at }
 
 pub prime : (p : ℕ) → 1 ≤ greatest p → Prime p
 prime = by_prime Prime (from_test 2 (lit< tt) tt) (from_test 3 (lit< tt) tt) (from_test 5 (lit< tt) tt) (from_test 7 (lit< tt) tt) (from_test 11 (lit< tt) tt) (from_test 13 (lit< tt) tt) (from_test 17 (lit< tt) tt)
+
+-- u ^ (p − 2) inverts u
+pub inverse_is : (p : ℕ) → Prime p → (u : ℕ) → 0 < u % p → (u * ((u % p) ^ (p - 2) % p)) % p ≡ 1
+inverse_is p P u some =
+    sym (mul-mod_first u ((u % p) ^ (p - 2) % p) p) ∙ P.inverse (u % p) some (mod-lt u (omega (arith, P.above)))
+
+-- and needs 64 bits
+pub inverse_fits : (p u : ℕ) → 1 ≤ greatest p → (u % p) ^ (p - 2) < 2 ^ 64
+inverse_fits p u h =
+    let P : Prime p = prime p h in
+    let small : u % p ≤ p = omega arith in
+    lt_of_le_of_lt (pow-le-pow_left small (p - 2)) (by_prime (λ (p : ℕ). p ^ (p - 2) < 2 ^ 64) (lit< tt) (lit< tt) (lit< tt) (lit< tt) (lit< tt) (lit< tt) (lit< tt) p h)
 
 -- u has an inverse modulo m
 pub record Inverse (m : ℕ) (u : ℤ) : Type 0 where

@@ -3,7 +3,7 @@ ghost use Rattle.std.specs.Prelude.{◌≡◌, ◌-◌, ◌≤◌, MatchResult};
 ghost use Rattle.modulus.specs.Bounds.{Exponent, Mu, factorial as factorial_of, open_digits, v, w};
 ghost use Rattle.modulus.specs.Moduli.{Listed, greatest};
 
-use crate::listed::{Modulus, power};
+use crate::listed::Modulus;
 use crate::refusal::Refusal;
 use crate::units::{factorial, split};
 
@@ -44,10 +44,11 @@ fn digits_below(modulus: &Modulus, k: u32) -> u32
 
 impl Modulus {
     // w(i), the bound of place i.
+    #[tactic(auto, using(crate::proofs::Bounds::power_fits))]
     pub fn bound(&self, i: u32) -> u32
         ensures { result ≡ w self.now.prime self.now.exponent i }
     {
-        power(self.prime(), digits_at(self, i))
+        self.prime().pow(digits_at(self, i))
     }
 
     // μ and the sum of max(e − v(i), 0) over the places i below it.

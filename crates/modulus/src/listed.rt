@@ -41,19 +41,7 @@ fn greatest_exponent(p: u32) -> u32
     }
 }
 
-// p ^ k, for a listed exponent k or 0.
-pub(crate) fn power(p: u32, k: u32) -> u32
-    requires { k ≤ greatest p }
-    ensures { result ≡ p ^ k }
-{
-    let mut value = 1;
-    for _ in 0..k {
-        value *= p;
-    }
-    value
-}
-
-// μ, the least i whose factorial p ^ e divides.
+// μ, the least i whose factorial p ^ e divides. A `while`: the last i is what it looks for, so there is no range to go over.
 fn open_places(p: u32, e: u32) -> u32
     requires { Listed p e }
     ensures { Mu p e result }
@@ -68,6 +56,7 @@ fn open_places(p: u32, e: u32) -> u32
 }
 
 // The modulus p ^ e, which is listed.
+#[tactic(auto, using(crate::proofs::Bounds::power_fits))]
 fn listed(p: u32, e: u32) -> Modulus
     requires { Listed p e }
     ensures { (result.prime ≡ p) × (result.exponent ≡ e) }
@@ -75,7 +64,7 @@ fn listed(p: u32, e: u32) -> Modulus
     Modulus {
         prime: p,
         exponent: e,
-        value: power(p, e),
+        value: p.pow(e),
         mu: open_places(p, e),
     }
 }

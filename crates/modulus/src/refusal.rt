@@ -38,17 +38,17 @@ impl Refusal {
     {
         match *self {
             Refusal::Unlisted => 1,
-            Refusal::TooLarge { place: _ } => 2,
-            Refusal::Full { count: _ } => 3,
-            Refusal::NoPolynomial { place: _ } => 4,
+            Refusal::TooLarge { .. } => 2,
+            Refusal::Full { .. } => 3,
+            Refusal::NoPolynomial { .. } => 4,
             Refusal::NothingStands => 5,
-            Refusal::ShortBuffer { needed: _ } => 6,
-            Refusal::OutOfRange { given: _ } => 7,
-            Refusal::BadStep { step: _ } => 8,
-            Refusal::NoTrays { needed: _ } => 9,
-            Refusal::LevelUsed { step: _ } => 10,
-            Refusal::BadDigits { digits: _ } => 11,
-            Refusal::BadLine { line: _ } => 12,
+            Refusal::ShortBuffer { .. } => 6,
+            Refusal::OutOfRange { .. } => 7,
+            Refusal::BadStep { .. } => 8,
+            Refusal::NoTrays { .. } => 9,
+            Refusal::LevelUsed { .. } => 10,
+            Refusal::BadDigits { .. } => 11,
+            Refusal::BadLine { .. } => 12,
         }
     }
 
@@ -57,16 +57,12 @@ impl Refusal {
         ensures { result ≡ place_of self.now }
     {
         match *self {
-            Refusal::Unlisted => 0,
-            Refusal::TooLarge { place } => place,
+            Refusal::Unlisted | Refusal::NothingStands => 0,
+            Refusal::TooLarge { place } | Refusal::NoPolynomial { place } => place,
             Refusal::Full { count } => count,
-            Refusal::NoPolynomial { place } => place,
-            Refusal::NothingStands => 0,
-            Refusal::ShortBuffer { needed } => needed,
+            Refusal::ShortBuffer { needed } | Refusal::NoTrays { needed } => needed,
             Refusal::OutOfRange { given } => given,
-            Refusal::BadStep { step } => step,
-            Refusal::NoTrays { needed } => needed,
-            Refusal::LevelUsed { step } => step,
+            Refusal::BadStep { step } | Refusal::LevelUsed { step } => step,
             Refusal::BadDigits { digits } => digits,
             Refusal::BadLine { line } => line,
         }

@@ -4,7 +4,7 @@ ghost use Rattle.modulus.specs.Bounds.{exponent, factorial as factorial_of, v};
 ghost use Rattle.modulus.specs.Moduli.{greatest};
 ghost use Rattle.modulus.specs.Quotient.{Quotient};
 
-use crate::listed::{Modulus, power};
+use crate::listed::Modulus;
 
 // A number as a power of p times what is left of it.
 #[derive(Clone, Copy)]
@@ -56,12 +56,7 @@ fn inverse_modulo_prime(p: u32, u: u32) -> u32
     ensures one { (u * result) % p ≡ 1 }
     ensures small { result < p }
 {
-    let base = u % p;
-    let mut r = 1;
-    for _ in 2..p {
-        r = r * base % p;
-    }
-    r
+    (u64::from(u % p).pow(p - 2) % u64::from(p)) as u32
 }
 
 // The inverse modulo p ^ e of what p does not divide: each round doubles the number of digits that are right.
@@ -75,18 +70,19 @@ fn inverse(modulus: &Modulus, u: u32) -> u32
     let mut r = inverse_modulo_prime(modulus.prime(), u);
     let mut right = 1;
     while right < modulus.exponent() {
-        r = r * ((2 + (m - u * r % m)) % m) % m;
+        r = r * ((2 + modulus.negative(u * r)) % m) % m;
         right *= 2;
     }
     r
 }
 
 // The power of p in a part.
+#[tactic(auto, using(crate::proofs::Bounds::power_fits))]
 fn prime_power(modulus: &Modulus, part: PrimePart) -> u32
     requires { part.exponent < modulus.now.exponent }
     ensures { result ≡ modulus.now.prime ^ part.exponent }
 {
-    power(modulus.prime(), part.exponent)
+    modulus.prime().pow(part.exponent)
 }
 
 // The inverse modulo p ^ e of what is left in a part.
@@ -115,14 +111,11 @@ fn divide_past(modulus: &Modulus, i: u32, rest: u32) -> Option<u32>
     requires { modulus.now.mu ≤ i }
     ensures { Quotient modulus.now i rest result }
 {
-    if rest % modulus.value() == 0 {
-        Some(0)
-    } else {
-        None
-    }
+    (rest % modulus.value() == 0).then_some(0)
 }
 
 // The same before place μ: the power of p in i! has to divide the rest, and what is left of i! has an inverse.
+#[tactic(auto, using(crate::proofs::Exponents::power_positive))]
 fn divide_before(modulus: &Modulus, i: u32, rest: u32) -> Option<u32>
     requires { i < modulus.now.mu }
     ensures { Quotient modulus.now i rest result }

@@ -1,5 +1,6 @@
 // Offers.
 ghost use Rattle.std.specs.Prelude.{◌≡◌, ℕ, ◌+◌, ◌*◌, ◌<◌, ◌≤◌, [], ◌∷◌, ◌++◌, pos, MatchOption, MatchResult, ◌≢◌, slice_index};
+ghost use Rattle.fit.specs.Range.{InRange};
 ghost use Rattle.fit.specs.Rules.{NoOffer, Offered};
 ghost use Rattle.fit.specs.Standing.{power_of, stands};
 ghost use Rattle.modulus.specs.Bounds.{factorial, w};
@@ -21,17 +22,14 @@ pub struct Accepted {
 impl Fit {
     // The coefficient by which the reported polynomial takes this value in the next place; none where no integer polynomial does.
     fn next_coefficient(&self, value: u32) -> Option<u16>
-        requires room { self.now.count < self.now.modulus.value }
-        requires small { value < self.now.modulus.value }
+        requires { InRange self.now value }
         ensures { MatchOption result (Fits (power_of self.now.modulus) (stands self.now ++ value ∷ []) → ⊥) (λ c. (c < w self.now.modulus.prime self.now.modulus.exponent self.now.count) × Cong (power_of self.now.modulus) (pos (value_at self.now.coefficients self.now.count + c * factorial self.now.count)) (pos value)) }
     {
         let m = self.modulus.value();
         let sum = self.value_at(self.count as u16);
         let rest = (value + (m - sum)) % m;
-        match self.modulus.divide_by_factorial(self.count, rest) {
-            Some(c) => Some(c as u16),
-            None => None,
-        }
+        let c = self.modulus.divide_by_factorial(self.count, rest)?;
+        Some(c as u16)
     }
 
     // One coefficient more. Past the last place it is 0, which needs no memory.
@@ -49,7 +47,7 @@ impl Fit {
 
     // The refusals that need no polynomial: the fit is full, or the value is not below the modulus.
     fn check_range(&self, value: u32) -> Result<(), Refusal>
-        ensures { MatchResult result (λ _. (self.now.count < self.now.modulus.value) × (value < self.now.modulus.value)) (λ f. (self.now.count ≡ self.now.modulus.value → f ≡ Refusal.Full self.now.count) × ((self.now.count ≢ self.now.modulus.value) → (self.now.modulus.value ≤ value) × (f ≡ Refusal.TooLarge self.now.count))) }
+        ensures { MatchResult result (λ _. InRange self.now value) (λ f. (self.now.count ≡ self.now.modulus.value → f ≡ Refusal.Full self.now.count) × ((self.now.count ≢ self.now.modulus.value) → (self.now.modulus.value ≤ value) × (f ≡ Refusal.TooLarge self.now.count))) }
     {
         let m = self.modulus.value();
         let place = self.count as usize;
@@ -64,15 +62,14 @@ impl Fit {
 
     // The value joins the table if some integer polynomial takes it there.
     fn fit_in(&mut self, value: u32) -> Result<Accepted, Refusal>
-        requires room { self.old.count < self.old.modulus.value }
-        requires small { value < self.old.modulus.value }
+        requires { InRange self.old value }
         ensures modulus { self.new.modulus ≡ self.old.modulus }
         ensures cases { MatchResult result (λ a. Offered self.old.modulus.prime self.old.modulus.exponent (stands self.old) value a.place a.coefficient × (stands self.new ≡ stands self.old ++ value ∷ [])) (λ f. NoOffer (power_of self.old.modulus) (stands self.old) value f × (self.new ≡ self.old)) }
     {
         let place = self.count as usize;
-        let Some(coefficient) = self.next_coefficient(value) else {
-            return Err(Refusal::NoPolynomial { place });
-        };
+        let coefficient = self
+            .next_coefficient(value)
+            .ok_or(Refusal::NoPolynomial { place })?;
         self.append(coefficient);
         Ok(Accepted { place, coefficient })
     }

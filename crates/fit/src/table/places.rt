@@ -6,7 +6,7 @@ ghost use Rattle.poly.specs.Reduced.{value_at};
 use crate::table::Fit;
 use poly::newton::evaluate;
 
-// Writes c at the place, if the list goes so far.
+// Writes c at the place, if the list goes so far. By the index, since no contract says what a write through `get_mut` leaves in the list.
 pub(crate) fn put(list: &mut [u16], place: usize, c: u16)
     ensures { list.new ≡ slice_set list.old place c }
 {
@@ -21,6 +21,6 @@ impl Fit {
         ensures { result ≡ value_at self.now.coefficients x % power_of self.now.modulus }
     {
         let mu = self.modulus.mu() as usize;
-        evaluate(&self.modulus, &self.coefficients[0..mu], x)
+        evaluate(&self.modulus, &self.coefficients[..mu], x)
     }
 }

@@ -7,14 +7,12 @@ use modulus::refusal::Refusal;
 use poly::powers::powers;
 
 impl Fit {
-    // Writes the coefficients in powers of X to the front of the buffer.
-    fn write_powers(&self, out: &mut [u16], needed: usize)
-        requires all { needed ≡ report_length self.now }
-        requires room { needed ≤ length out.old }
-        ensures written { WrittenPowers self.now (take needed out.new) }
-        ensures beyond { drop needed out.new ≡ drop needed out.old }
+    // Writes the coefficients in powers of X to the front of the buffer, if they fit.
+    fn write_powers(&self, out: &mut [u16], needed: usize) -> Result<usize, Refusal>
+        requires { needed ≡ report_length self.now }
+        ensures { MatchResult result (λ _. (needed ≤ length out.old) × WrittenPowers self.now (take needed out.new) × (drop needed out.new ≡ drop needed out.old)) (λ f. (f ≡ Refusal.ShortBuffer needed) × (length out.old < needed) × (out.new ≡ out.old)) }
     {
-        let _ = powers(&self.modulus, &self.coefficients[0..needed], out);
+        powers(&self.modulus, &self.coefficients[..needed], out)
     }
 
     // Writes the coefficients of the reported polynomial in powers of X, each below the modulus, as many as a report has, and answers how many;
@@ -23,10 +21,7 @@ impl Fit {
         ensures { MatchResult result (λ n. (n ≡ report_length self.now) × (n ≤ length out.old) × WrittenPowers self.now (take n out.new) × (drop n out.new ≡ drop n out.old)) (λ f. (f ≡ Refusal.ShortBuffer (report_length self.now)) × (length out.old < report_length self.now) × (out.new ≡ out.old)) }
     {
         let needed = self.needed();
-        if out.len() < needed {
-            return Err(Refusal::ShortBuffer { needed });
-        }
-        self.write_powers(out, needed);
+        self.write_powers(out, needed)?;
         Ok(needed)
     }
 }

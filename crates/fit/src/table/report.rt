@@ -5,10 +5,10 @@ ghost use Rattle.poly.specs.Reduced.{Reported};
 
 use crate::table::Fit;
 use modulus::listed::PLACES;
-use modulus::refusal::Refusal;
+use modulus::refusal::{Refusal, check_room};
 
 impl Fit {
-    // All coefficients.
+    // All coefficients. Apart from `form`, whose proof then stands on this promise alone, with no lemma on the coefficients of one fit.
     fn all_places(&self) -> [u16; PLACES]
         ensures { Reported self.now.modulus.prime self.now.modulus.exponent (stands self.now) result }
     {
@@ -36,7 +36,7 @@ impl Fit {
         ensures written { Reported self.now.modulus.prime self.now.modulus.exponent (stands self.now) (take needed out.new) }
         ensures beyond { drop needed out.new ≡ drop needed out.old }
     {
-        out[0..needed].copy_from_slice(&self.coefficients[0..needed]);
+        out[..needed].copy_from_slice(&self.coefficients[..needed]);
     }
 
     // Writes the coefficients of the reported polynomial into the caller's buffer, as many as there are standing values and at most μ,
@@ -45,9 +45,7 @@ impl Fit {
         ensures { MatchResult result (λ n. (n ≡ report_length self.now) × (n ≤ length out.old) × Reported self.now.modulus.prime self.now.modulus.exponent (stands self.now) (take n out.new) × (drop n out.new ≡ drop n out.old)) (λ f. (f ≡ Refusal.ShortBuffer (report_length self.now)) × (length out.old < report_length self.now) × (out.new ≡ out.old)) }
     {
         let needed = self.needed();
-        if out.len() < needed {
-            return Err(Refusal::ShortBuffer { needed });
-        }
+        check_room(out.len(), needed)?;
         self.write_report(out, needed);
         Ok(needed)
     }

@@ -1,5 +1,5 @@
-use Rattle.std.proofs.Common.{◌≡◌, ℕ, suc, ◌+◌, ◌*◌, ◌≤◌, ap, ◌∙◌, add-one, arith}
-use Rattle.modulus.specs.Bounds.{exponent, open_digits}
+use Rattle.std.proofs.Common.{ℕ, suc, ◌*◌, ◌≤◌, arith}
+use Rattle.modulus.specs.Bounds.{open_digits}
 use Rattle.modulus.specs.Moduli.{greatest}
 use Rattle.modulus.proofs.Bounds.{greatest-small}
 use Rattle.modulus.proofs.count.digits_below.Goals as goal
@@ -13,12 +13,4 @@ overflow_add-digits c =
     let m = c.args.modulus.now in
     let top : greatest m.prime ≤ 16 = greatest-small m.prime (omega (arith, m.listed.0, m.listed.1)) in
     let small = few m.prime m.exponent c.loop-i.i (omega (arith, m.listed.1)) in
-    record { fits = omega (arith, c.loop-i.invariant.1, c.requires, m.few, c.exponent.ensures, m.listed.1) }
-
-pub loop-i-preserved : goal.loop-i-preserved
-loop-i-preserved c =
-    let m = c.args.modulus.now in
-    let i = c.loop-i.i in
-    let same : exponent c.prime.result (i + 1) ≡ exponent m.prime (i + 1) = ap (λ (p : ℕ). exponent p (i + 1)) c.prime.ensures.is in
-    let part = c.split-reached.ensures.exponent ∙ same in
-    (rw add-one (omega (arith, c.loop-i.invariant.0, rw add-one at part)), rw add-one (omega (arith, c.loop-i.invariant.0, c.loop-i.invariant.1, c.exponent.ensures)))
+    record { fits = omega (arith, c.loop-i.invariant.digits, c.requires, m.few, c.exponent.ensures, m.listed.1) }

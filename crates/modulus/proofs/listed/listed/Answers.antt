@@ -1,18 +1,14 @@
-use Rattle.std.proofs.Common.{ℕ, ◌<◌, ◌≤◌, sym, subst}
 use Rattle.modulus.proofs.Bounds.{listed-prime, above_one, power_small, mu-small}
 use Rattle.modulus.proofs.listed.listed.Goals as goal
 
-pub invariant_of-result : goal.invariant_of-result
-invariant_of-result c =
-    let p = c.args.p in
-    let e = c.args.e in
-    let is = sym c.power.ensures in
-    record {
-      listed = c.requires;
-      power = c.power.ensures;
-      least = c.open_places.ensures;
-      above = (listed-prime p e c.requires).above;
-      large = subst (λ (n : ℕ). 1 < n) is (above_one p e c.requires);
-      small = subst (λ (n : ℕ). n ≤ 65536) is (power_small p e c.requires.1);
-      few = mu-small p e c.open_places.result c.requires c.open_places.ensures;
-    }
+pub invariant_of-result-clause-above : goal.invariant_of-result-clause-above
+invariant_of-result-clause-above c = (listed-prime c.args.p c.args.e c.requires).above
+
+pub invariant_of-result-clause-large : goal.invariant_of-result-clause-large
+invariant_of-result-clause-large c = rw c.pow.ensures (above_one c.args.p c.args.e c.requires)
+
+pub invariant_of-result-clause-small : goal.invariant_of-result-clause-small
+invariant_of-result-clause-small c = rw c.pow.ensures (power_small c.args.p c.args.e c.requires.1)
+
+pub invariant_of-result-clause-few : goal.invariant_of-result-clause-few
+invariant_of-result-clause-few c = mu-small c.args.p c.args.e c.open_places.result c.requires c.open_places.ensures

@@ -3,8 +3,12 @@ use Rattle.modulus.specs.Congruence.{Cong}
 use Rattle.modulus.proofs.units.inverse.Given as goal
 
 abbrev pub invariant-loop-right : goal.invariant-loop-right
-invariant-loop-right l =
-    (l.r < l.modulus.value) × (0 < l.right) × (l.right ≤ 32) × Cong (l.modulus.prime ^ min l.right l.modulus.exponent) (pos (l.u * l.r)) (pos 1)
+invariant-loop-right l = record {
+  small : l.r < l.modulus.value;
+  some : 0 < l.right;
+  few : l.right ≤ 32;
+  digits : Cong (l.modulus.prime ^ min l.right l.modulus.exponent) (pos (l.u * l.r)) (pos 1);
+}
 
 abbrev pub decreases-loop-right : goal.decreases-loop-right
 decreases-loop-right l = l.modulus.exponent - l.right

@@ -1,26 +1,11 @@
-use Rattle.std.proofs.Common.{◌≡◌, ℕ, suc, ◌-◌, ◌<◌, ◌≤◌, get_or, set, refl, ◌∙◌, mod-lt, arith}
+use Rattle.std.proofs.Common.{◌≡◌, ℕ, suc, ◌-◌, ◌≤◌, get_or, set, refl, ◌∙◌, arith}
 use native.Mathlib.Decide.{ℕ_discrete}
 use Rattle.std.proofs.lemmas.List.{get_or-set_other}
-use Rattle.modulus.proofs.Bounds.{power_small, above_one, w-positive}
-use Rattle.poly.specs.Reduced.{value_at}
-use Rattle.fit.specs.Standing.{power_of}
+use Rattle.modulus.proofs.Bounds.{w-positive}
 use Rattle.fit.specs.declared.table.Fit.{Fit}
 use Rattle.fit.proofs.Offers.{shrunk}
 use Rattle.fit.proofs.Tables.{set_here, set-reduced}
 use Rattle.fit.proofs.table.Fit.take_last.Goals as goal
-
-pub overflow_cast-last : goal.overflow_cast-last
-overflow_cast-last c =
-    let f = c.args.self.now in
-    let m = f.modulus in
-    record { fits = omega (arith, f.within, m.power, power_small m.prime m.exponent m.listed.1, c.requires) }
-
-pub overflow_cast-value : goal.overflow_cast-value
-overflow_cast-value c =
-    let f = c.args.self.now in
-    let m = f.modulus in
-    let some : 0 < power_of m = omega (arith, above_one m.prime m.exponent m.listed) in
-    record { fits = omega (arith, c.value_at-value.ensures, mod-lt (value_at f.coefficients (f.count - 1)) some, power_small m.prime m.exponent m.listed.1) }
 
 pub invariant_of-self : goal.invariant_of-self
 invariant_of-self c =
@@ -40,8 +25,9 @@ invariant_of-self c =
         go (yes same) = rw same (set_here f.coefficients (f.count - 1) 0 (λ _. refl))
         go (no other) = get_or-set_other f.coefficients (f.count - 1) k 0 0 other ∙ f.clear k (omega arith)
 
-pub returns : goal.returns
-returns c =
+pub returns-clause-after : goal.returns-clause-after
+returns-clause-after c =
     let f = c.args.self.now in
-    let count : f.count ≡ suc (f.count - 1) = omega (arith, c.requires) in
-    record { modulus = refl; after = shrunk f c.put.new.list (f.count - 1) c.value_at-value.result count (λ i h. rw c.put.ensures (get_or-set_other f.coefficients (f.count - 1) i 0 0 (omega arith))) c.value_at-value.ensures }
+    let n = f.count - 1 in
+    let count : f.count ≡ suc n = omega (arith, c.requires) in
+    shrunk f c.put.new.list n c.value_at-value.result count (λ i h. rw c.put.ensures (get_or-set_other f.coefficients n i 0 0 (omega arith))) c.value_at-value.ensures

@@ -4,7 +4,7 @@ use Rattle.fit.specs.Rules.{none}
 use Rattle.fit.specs.Standing.{power_of}
 use Rattle.fit.proofs.table.Fit.withdraw.Goals as goal
 
-pub returns-then-self-eq0 : goal.returns-then-self-eq0
-returns-then-self-eq0 c =
+pub returns-then-self-eq0-clause-cases : goal.returns-then-self-eq0-clause-cases
+returns-then-self-eq0-clause-cases c =
     let f = c.args.self.now in
-    record { modulus = refl; cases = (none (ap (λ (n : ℕ). standing (power_of f.modulus) f.coefficients n) c.if-self-eq0.true), refl) }
+    (none (ap (λ (n : ℕ). standing (power_of f.modulus) f.coefficients n) c.if-self-eq0.true), refl)

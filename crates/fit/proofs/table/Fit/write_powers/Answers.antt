@@ -1,42 +1,46 @@
-use Rattle.std.proofs.Common.{◌≡◌, ℕ, ◌-◌, ◌<◌, ◌≤◌, length, get_or, take, drop, Ok, Err, Result, ◌∙◌, subst, arith, rules, MatchResult}
+use Rattle.std.proofs.Common.{◌≡◌, ℕ, ◌<◌, ◌≤◌, List, length, get_or, take, drop, ◌∙◌, subst, refl, arith, rules, Ok, Err, Result, MatchResult}
 use Rattle.std.proofs.lemmas.List.{length-take-le}
 use Rattle.modulus.specs.declared.refusal.Refusal.{Refusal}
+use Rattle.modulus.specs.declared.refusal.Refusal.TheVariants.{ShortBuffer}
 use Rattle.poly.specs.Equivalents.{SamePolynomial, ints}
 use Rattle.poly.specs.Polynomial.{form}
 use Rattle.poly.specs.Powers.{Holds, NoPowers, long, short}
-use Rattle.poly.proofs.Standing.{front_same}
-use Rattle.fit.proofs.Offers.{past-report, reports}
+use Rattle.fit.specs.Standing.{WrittenPowers, report_length}
+use Rattle.fit.specs.declared.table.Fit.{Fit}
+use Rattle.fit.proofs.Offers.{front_reports}
 use Rattle.fit.proofs.table.Fit.write_powers.Goals as goal
 
--- a form that fits the buffer is not refused
-never : (n room : ℕ) (f : Refusal) → n ≤ 64 → n ≤ room → NoPowers n room f → ⊥
-never n room f few fits (long h) = omega arith
-never n room f few fits (short h k) = omega arith
+-- the front of the coefficients that a report has
+few : (f : Fit) (n : ℕ) → n ≡ report_length f → length f.coefficients ≡ 52 → (length (take n f.coefficients) ≡ n) × (n ≤ 64)
+few f n e len = (length-take-le n f.coefficients (omega (arith, f.modulus.few)), omega (arith, f.modulus.few))
 
-answered : (r : Result ℕ Refusal) (P : ℕ → Type 0) (Q : Refusal → Type 0) → MatchResult r P Q → ((f : Refusal) → Q f → ⊥) → (n : ℕ) × P n
-answered (Ok n) P Q h no-err = (n, h)
-answered (Err f) P Q h no-err = absurd (no-err f h)
+-- a report is never longer than 64, so the buffer is too short
+refused : (n room : ℕ) (r : Refusal) → n ≤ 64 → NoPowers n room r → (r ≡ ShortBuffer n) × (room < n)
+refused n room r le (long h) = absurd (omega arith)
+refused n room r le (short h k) = (refl, k)
+
+written : (f : Fit) (n : ℕ) (xs : List ℕ) → n ≡ report_length f → Holds f.modulus.value (form (take n f.coefficients)) n xs → WrittenPowers f xs
+written f n xs e held =
+    let m = f.modulus in
+    record {
+      form_of = take n f.coefficients;
+      reported = front_reports f n e;
+      is = subst (λ (k : ℕ). SamePolynomial k (ints xs) (form (take n f.coefficients))) m.power held.is;
+      below = λ k. subst (λ (b : ℕ). get_or xs k 0 < b) m.power (held.below k);
+    }
+
+-- what the library of polynomials answers, as the fit says it
+answered : (f : Fit) (n : ℕ) (before after : List ℕ) (r : Result ℕ Refusal) → n ≡ report_length f → length f.coefficients ≡ 52
+    → MatchResult r (λ k. (k ≡ length (take n f.coefficients)) × (k ≤ 64) × (k ≤ length before) × Holds f.modulus.value (form (take n f.coefficients)) k (take k after) × (drop k after ≡ drop k before))
+    (λ e. NoPowers (length (take n f.coefficients)) (length before) e × (after ≡ before))
+    → MatchResult r (λ _. (n ≤ length before) × WrittenPowers f (take n after) × (drop n after ≡ drop n before)) (λ e. (e ≡ ShortBuffer n) × (length before < n) × (after ≡ before))
+answered f n before after (Ok k) e len h =
+    let got = rw (h.0 ∙ (few f n e len).0) at h in
+    (got.2, written f n (take n after) e got.3, got.4)
+answered f n before after (Err r) e len h =
+    let size = few f n e len in
+    let no = refused n (length before) r size.1 (rw size.0 at h.0) in
+    (no.0, no.1, h.1)
 
 pub returns : goal.returns
-returns c =
-    let f = c.args.self.now in
-    let m = f.modulus in
-    let n = c.args.needed in
-    let front = take (n - 0) f.coefficients in
-    let exact : n - 0 ≡ n = omega arith in
-    let short' : n ≤ 52 = omega (arith, c.requires.all, m.few) in
-    let whole : length f.coefficients ≡ 52 = search rules in
-    let len : length front ≡ n = length-take-le (n - 0) f.coefficients (omega arith) ∙ exact in
-    let got = answered c.powers.result _ _ c.powers.ensures (λ r h. never (length front) (length c.args.out.now) r (omega arith) (omega (arith, c.requires.room)) h.0) in
-    let all : got.0 ≡ n = got.1.0 ∙ len in
-    let held : Holds m.value (form front) n (take n c.powers.new.out) = subst (λ (k : ℕ). Holds m.value (form front) k (take k c.powers.new.out)) all got.1.3 in
-    let same : (i : ℕ) → get_or front i 0 ≡ get_or f.coefficients i 0 = front_same f.coefficients (n - 0) (λ i le. past-report f n c.requires.all i (omega arith)) in
-    record {
-      written = record {
-        form_of = front;
-        reported = reports f front same;
-        is = subst (λ (k : ℕ). SamePolynomial k (ints (take n c.powers.new.out)) (form front)) m.power held.is;
-        below = λ k. subst (λ (b : ℕ). get_or (take n c.powers.new.out) k 0 < b) m.power (held.below k);
-      };
-      beyond = subst (λ (k : ℕ). drop k c.powers.new.out ≡ drop k c.args.out.now) all got.1.4;
-    }
+returns c = answered c.args.self.now c.args.needed c.args.out.now c.powers.new.out c.powers.result c.requires (search rules) c.powers.ensures
