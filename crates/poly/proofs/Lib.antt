@@ -8,3 +8,5 @@ pub mod Coefficients
 pub mod Equivalents
 pub mod Shifts
 pub mod Held
+pub mod Arrays
+pub mod Exits

@@ -1,30 +1,11 @@
-use Rattle.std.proofs.Common.{◌≡◌, ℕ, ◌+◌, ◌*◌, ◌%◌, ◌<◌, ◌≤◌, List, [], ◌∷◌, ◌++◌, length, get_or, take, drop, set, sym, ap, ◌∙◌, mul-le-mul_left, arith, rules}
-use Rattle.std.proofs.lemmas.List.{append_assoc, append-nil, take_all, drop_all, drop_more, take_more_set, drop-set-lt}
-use Rattle.modulus.proofs.Division.{product_small}
+use Rattle.std.proofs.Common.{◌≡◌, ℕ, ◌+◌, ◌*◌, ◌%◌, ◌<◌, ◌≤◌, List, [], ◌∷◌, ◌++◌, length, get_or, take, drop, set, sym, refl, ap, ◌∙◌, subst, mul-le-mul_left, arith}
+use Rattle.std.proofs.lemmas.List.{append_assoc, drop_more, take_more_set, drop-set-lt}
 use Rattle.poly.specs.Shift.{shifted}
 use Rattle.poly.proofs.shift.shift_in.Goals as goal
 
--- the factor stays within 16 bits
-factor_small : (t t₀ by i n : ℕ) → t ≡ t₀ + by * i → i < n → t₀ + by * n ≤ 65535 → t + by ≤ 65535
-factor_small t t₀ by i n is lt all =
-    let more : by * (i + 1) ≤ by * n = mul-le-mul_left by (omega arith) in
-    omega arith
-
-pub overflow_mul-c : goal.overflow_mul-c
-overflow_mul-c c =
-    let old : c.from-old.result ≤ 65535 = search rules in
-    let t = factor_small c.loop-c.t c.args.t c.args.by c.loop-c.c-index (length c.args.list.now) c.loop-c.invariant.2 c.loop-c-test.true c.requires.factors in
-    record { fits = omega (arith, product_small c.loop-c.t c.from-old.result (omega arith) old) }
-
-pub overflow_add-c : goal.overflow_add-c
-overflow_add-c c =
-    let old : c.from-old.result ≤ 65535 = search rules in
-    let t = factor_small c.loop-c.t c.args.t c.args.by c.loop-c.c-index (length c.args.list.now) c.loop-c.invariant.2 c.loop-c-test.true c.requires.factors in
-    record { fits = omega (arith, c.loop-c.invariant.1, product_small c.loop-c.t c.from-old.result (omega arith) old) }
-
 pub overflow_add-t : goal.overflow_add-t
 overflow_add-t c =
-    let t = factor_small c.loop-c.t c.args.t c.args.by c.loop-c.c-index (length c.args.list.now) c.loop-c.invariant.2 c.loop-c-test.true c.requires.factors in
+    let more : c.args.by * (c.loop-c.c-index + 1) ≤ c.args.by * length c.args.list.now = mul-le-mul_left c.args.by (omega arith) in
     record { fits = omega arith }
 
 -- one coefficient more
@@ -40,13 +21,11 @@ again m by b t x i l whole lt read h =
 
 pub loop-c-preserved : goal.loop-c-preserved
 loop-c-preserved c =
-    let old : c.from-old.result ≤ 65535 = search rules in
-    let within : c.loop-c.c-index < length c.loop-c.list = omega arith in
-    (again c.args.m c.args.by c.loop-c.before c.loop-c.t c.from-old.result c.loop-c.c-index c.loop-c.list _ within c.from-old.ensures c.loop-c.invariant.0, old, omega (arith, c.loop-c.invariant.2))
-
-pub returns : goal.returns
-returns c =
+    let m = c.args.modulus.now.value in
     let i = c.loop-c.c-index in
-    let l = c.loop-c.list in
-    let past : length l ≤ i = omega arith in
-    sym (append-nil l) ∙ ap (λ (ys : List ℕ). ys ++ []) (sym (take_all i l past)) ∙ ap (λ (ys : List ℕ). take i l ++ shifted c.args.m c.loop-c.before c.loop-c.t c.args.by ys) (sym (drop_all i l past)) ∙ c.loop-c.invariant.0
+    let xs = c.loop-c.list in
+    let within : i < length xs = omega arith in
+    let x = get_or xs i 0 in
+    let whole = shifted m c.args.first c.args.t c.args.by c.args.list.now in
+    let next = again m c.args.by c.loop-c.before c.loop-c.t x i xs whole within refl c.loop-c.invariant.0 in
+    (subst (λ (y : ℕ). take (i + 1) (set xs i y) ++ shifted m x (c.loop-c.t + c.args.by) c.args.by (drop (i + 1) (set xs i y)) ≡ whole) (sym c.add_product.ensures) next, omega arith)
