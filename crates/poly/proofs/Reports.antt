@@ -117,21 +117,6 @@ extended p e h c c' n y d small z s t g =
     ap (λ (l : List ℕ). l ++ (value_at c' n % p ^ e) ∷ []) (standing-same (p ^ e) c' c n s)
     ∙ ap (λ (x : ℕ). standing (p ^ e) c n ++ x ∷ []) (ap (λ (x : ℕ). x % p ^ e) (value-extended c c' n d z s t) ∙ mod_from_cong g ∙ mod-eq_of_lt small)
 
-pub solvable_past : (p e : ℕ) → Listed p e → (n : ℕ) → e ≤ v p n → (d : ℕ) → Cong (p ^ e) (pos (d * factorial n)) (pos 0)
-solvable_past p e h n l d = record { times = pos (d * (p ^ (v p n - e) * parts.unit)); is = ap pos whole }
-  where
-    parts : Parts p (factorial n) (v p n)
-    parts = factorial-parts p (listed-prime p e h) n
-
-    regroup : (d a b u : ℕ) → d * (a * b * u) ≡ 0 + d * (b * u) * a
-    regroup d a b u = omega arith
-
-    whole : d * factorial n ≡ 0 + d * (p ^ (v p n - e) * parts.unit) * p ^ e
-    whole =
-        let split : v p n ≡ e + (v p n - e) = omega arith in
-        ap (λ (x : ℕ). d * x) (parts.is ∙ ap (λ (x : ℕ). x * parts.unit) (ap (λ (x : ℕ). p ^ x) split ∙ pow-add p e (v p n - e)))
-        ∙ regroup d (p ^ e) (p ^ (v p n - e)) parts.unit
-
 unit_ring : (z s q u : ℤ) → z *ℤ s *ℤ (q *ℤ u) ≡ q *ℤ z *ℤ (u *ℤ s)
 unit_ring z s q u = simp zring
 

@@ -20,6 +20,7 @@ fn same_form(first: &Coefficients, second: &Coefficients) -> bool
 
 // Whether the polynomials with these coefficients in powers of X have the same value modulo p ^ e at every whole number.
 // Refuses a modulus off the list, then a list of more than 64 and the first coefficient that is not below the modulus, of the first list and then of the second.
+#[tactic(auto, using(crate::proofs::Exits::refusals))]
 pub fn alike(p: u32, e: u32, first: &[u32], second: &[u32]) -> Result<bool, Refusal>
     ensures { MatchResult result (λ b. Listed p e × Taken (p ^ e) first.now × Taken (p ^ e) second.now × (b ≡ true → Alike (p ^ e) (ints first.now) (ints second.now)) × (Alike (p ^ e) (ints first.now) (ints second.now) → b ≡ true) × ToldApart) (λ f. NoComparison p e first.now second.now f) }
 {

@@ -44,6 +44,7 @@ fn write_null(modulus: &Modulus, i: usize, out: &mut [u16])
 
 // Writes the i + 1 coefficients in powers of X, modulo p ^ e, of w(i)·(X)_i, which is 0 modulo p ^ e at every whole number; answers how many.
 // Refuses a modulus off the list, then a place above 63, then a buffer that is too short, and leaves the buffer as it is; what lies past the coefficients stays.
+#[tactic(auto, using(crate::proofs::Exits::refusals))]
 pub fn null(p: u32, e: u32, i: usize, out: &mut [u16]) -> Result<usize, Refusal>
     ensures { MatchResult result (λ n. Listed p e × (n ≡ i + 1) × (i ≤ 63) × (n ≤ length out.old) × Holds (p ^ e) (null_at p e i) n (take n out.new) × Null (p ^ e) (ints (take n out.new)) × (drop n out.new ≡ drop n out.old) × Span) (λ f. NoNull p e i (length out.old) f × (out.new ≡ out.old)) }
 {

@@ -90,6 +90,7 @@ fn write_powers(modulus: &Modulus, coefficients: &[u16], out: &mut [u16])
 
 // Writes the coefficients in powers of X, each below the modulus, of the Newton form with these coefficients, as many as it has;
 // answers how many, and what lies past them stays. Refuses a list of more than 64 and then a buffer that is too short, and leaves it as it is.
+#[tactic(auto, using(crate::proofs::Exits::refusals))]
 pub fn powers(modulus: &Modulus, coefficients: &[u16], out: &mut [u16]) -> Result<usize, Refusal>
     ensures { MatchResult result (λ n. (n ≡ length coefficients.now) × (n ≤ 64) × (n ≤ length out.old) × Holds modulus.now.value (form coefficients.now) n (take n out.new) × (drop n out.new ≡ drop n out.old)) (λ f. NoPowers (length coefficients.now) (length out.old) f × (out.new ≡ out.old)) }
 {

@@ -86,6 +86,7 @@ impl<'a> Coefficients<'a> {
 // Writes the μ coefficients of the reduced form that has the same values modulo p ^ e at every whole number as the polynomial with these coefficients in powers of X;
 // answers μ, and what lies past them stays. Refuses a modulus off the list, then a list of more than 64, then the first coefficient that is not below the modulus,
 // then a buffer that is too short, and leaves the buffer as it is.
+#[tactic(auto, using(crate::proofs::Exits::refusals))]
 pub fn reduce(p: u32, e: u32, list: &[u32], out: &mut [u16]) -> Result<usize, Refusal>
     ensures { MatchResult result (λ n. Listed p e × Taken (p ^ e) list.now × Mu p e n × (n ≤ length out.old) × Reduces p e (ints list.now) (take n out.new) × (drop n out.new ≡ drop n out.old) × GivesBack) (λ f. NoReduction p e list.now (length out.old) f × (out.new ≡ out.old)) }
 {

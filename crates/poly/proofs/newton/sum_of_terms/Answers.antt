@@ -6,9 +6,6 @@ use Rattle.poly.proofs.Standing.{value-is}
 use Rattle.poly.specs.Reduced.{falls, sum_to, value_at}
 use Rattle.poly.proofs.newton.sum_of_terms.Goals as goal
 
-pub loop-c-init : goal.loop-c-init
-loop-c-init c = (sym (zero-mod c.args.modulus.now.value), sym (mod-eq_of_lt c.args.modulus.now.large), omega arith)
-
 -- one term more
 sum_more : (cs : List ℕ) (x i m s f a : ℕ) → s ≡ sum_to cs x i % m → f ≡ falls x i % m → a ≡ get_or cs i 0 → (s + a * f) % m ≡ sum_to cs x (i + 1) % m
 sum_more cs x i m s f a hs hf ha =

@@ -31,11 +31,3 @@ loop-c-preserved c =
       λ k. subst (λ (ls : List ℕ). Cong m (pos (get_or ls k 0)) (to_newton ordinary (ints (x ∷ inv.0)) k)) (sym c.shift_in.ensures) (newton_next m x (length inv.0) (ints inv.0) ks room inv.2 inv.3 k),
       λ k le. ap (λ (ls : List ℕ). get_or ls k 0) c.shift_in.ensures ∙ shifted-clear m x 0 1 ks (length inv.0) room inv.3 k le,
     )
-
-pub returns : goal.returns
-returns c =
-    let inv = c.loop-c.invariant in
-    let xs = c.args.self.now.list.now in
-    let none : c.loop-c.c-iterator.iter.rest.now ≡ [] = nil_from_length _ c.in-None.ensures.steps.0 in
-    let all : xs ≡ inv.0 = inv.1 ∙ ap (λ (ys : List ℕ). ys ++ inv.0) none in
-    subst (λ (ys : List ℕ). (k : ℕ) → Cong c.args.self.now.modulus.now.value (pos (get_or c.loop-c.newton k 0)) (to_newton ordinary (ints ys) k)) (sym all) inv.2
