@@ -19,6 +19,7 @@ use Rattle.poly.proofs.Falling.{ordinary-laws}
 use Rattle.poly.proofs.Standing.{value-is, value_same, front_same}
 use Rattle.poly.proofs.Reports.{coefficients, same-from_values}
 use Rattle.poly.proofs.Coefficients.{get_or-plus, get_or-scaled, sum_of, get_or-sum_suc, to_newton-polynomial, same_alike}
+use Rattle.poly.proofs.Rings.{zeros_ring}
 
 -- ---- the reduced form
 -- one form has one list of values
@@ -99,9 +100,6 @@ null_at-null p e h i x =
     cong_trans
     (cong_path (p ^ e) (value-scaled (pos (w p e i)) (falling i) (pos x) ∙ ap (λ (z : ℤ). pos (w p e i) *ℤ z) (value-falling i (pos x))))
     (vanish (ordinary-laws p e h) i x)
-
-zeros_ring : (x : ℤ) → pos 0 +ℤ x *ℤ pos 0 ≡ pos 0
-zeros_ring x = simp zring
 
 pub combination-null : (p e : ℕ) → Listed p e → (k : ℕ → ℤ) (n : ℕ) → Null (p ^ e) (combination p e k n)
 combination-null p e h k zero x = cong_refl (p ^ e) (pos 0)

@@ -1,3 +1,4 @@
+pub mod Rings
 pub mod Basis
 pub mod Points
 pub mod Values

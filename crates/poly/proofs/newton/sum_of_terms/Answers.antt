@@ -18,15 +18,7 @@ product_more x i m f g hf hg =
     ap (λ (n : ℕ). n % m) (zero-add (f * g)) ∙ ap (λ (n : ℕ). (n * g) % m) hf ∙ mul_mod_left m (falls x i) g ∙ ap (λ (n : ℕ). (falls x i * n) % m) hg ∙ rw add-one
 
 pub loop-c-preserved : goal.loop-c-preserved
-loop-c-preserved c =
-    let inv = c.loop-c.invariant in
-    let i = c.loop-c.c-index in
-    let x = c.args.x in
-    let m = c.args.modulus.now.value in (
-      c.add_product-sum.ensures ∙ sum_more c.args.coefficients.now x i m c.loop-c.sum c.loop-c.product _ inv.0 inv.1 refl,
-      c.add_product-product.ensures ∙ product_more x i m c.loop-c.product c.loop-c.factor inv.1 inv.2,
-      omega arith,
-    )
+loop-c-preserved c = grind (arith, sum_more, product_more)
 
 pub returns : goal.returns
 returns c =
