@@ -5,11 +5,9 @@ ghost use Rattle.poly.specs.Equivalents.{Null, Span, ints, null_at};
 ghost use Rattle.poly.specs.Powers.{Holds, NoNull};
 
 use crate::powers::{ROOM, add_scaled, copy_front, falling_powers};
+use crate::shift::COEFFICIENTS;
 use modulus::listed::Modulus;
 use modulus::refusal::{Refusal, check_room};
-
-// The greatest place of a null polynomial: it then has 64 coefficients.
-const LAST: usize = 63;
 
 // The number of coefficients of place i; refuses a buffer with less room.
 fn needed_room(i: usize, room: usize) -> Result<usize, Refusal>
@@ -20,7 +18,7 @@ fn needed_room(i: usize, room: usize) -> Result<usize, Refusal>
     Ok(i + 1)
 }
 
-// w(i)·(X)_i.
+// w(i)·(X)_i. Both `as` lose nothing, and the library has no `From` for them.
 fn null_powers(modulus: &Modulus, i: usize) -> [u16; ROOM]
     requires { i ≤ 63 }
     ensures { Holds modulus.now.value (null_at modulus.now.prime modulus.now.exponent i) (i + 1) result }
@@ -49,7 +47,7 @@ pub fn null(p: u32, e: u32, i: usize, out: &mut [u16]) -> Result<usize, Refusal>
     ensures { MatchResult result (λ n. Listed p e × (n ≡ i + 1) × (i ≤ 63) × (n ≤ length out.old) × Holds (p ^ e) (null_at p e i) n (take n out.new) × Null (p ^ e) (ints (take n out.new)) × (drop n out.new ≡ drop n out.old) × Span) (λ f. NoNull p e i (length out.old) f × (out.new ≡ out.old)) }
 {
     let modulus = Modulus::new(p, e)?;
-    if i > LAST {
+    if i >= COEFFICIENTS {
         return Err(Refusal::OutOfRange { given: i });
     }
     let needed = needed_room(i, out.len())?;

@@ -8,10 +8,11 @@ use crate::shift::{COEFFICIENTS, shift_in};
 use modulus::listed::Modulus;
 use modulus::refusal::{Refusal, check_room};
 
-// Room for the coefficients of a polynomial and for one factor more.
-pub(crate) const ROOM: usize = 65;
+// Room for the coefficients of a polynomial and for one factor more. No heap is used: a list stands in an array of this length,
+// with zeros behind it, since each factor X − i moves into the place behind the last coefficient.
+pub(crate) const ROOM: usize = COEFFICIENTS + 1;
 
-// −i modulo p ^ e, which 16 bits hold.
+// −i modulo p ^ e, in 16 bits. Both `as` lose nothing, and the library has no `From` for them.
 fn negative(modulus: &Modulus, i: usize) -> u16
     requires { i < 64 }
     ensures { result ≡ (modulus.now.value - i % modulus.now.value) % modulus.now.value }
@@ -41,7 +42,7 @@ pub(crate) fn falling_powers(modulus: &Modulus, i: usize) -> [u16; ROOM]
     list
 }
 
-// The sum and c times the list, place by place.
+// The sum and c times the list, place by place. It makes a new array: a `zip` of `iter_mut` would tell a proof nothing of what it wrote.
 pub(crate) fn add_scaled(
     modulus: &Modulus,
     sum: &[u16; ROOM],
@@ -59,8 +60,7 @@ fn form_powers(modulus: &Modulus, coefficients: &[u16]) -> [u16; ROOM]
     ensures { Holds modulus.now.value (form coefficients.now) (length coefficients.now) result }
 {
     let mut sum = [0; ROOM];
-    let mut term = [0; ROOM];
-    term[0] = 1;
+    let mut term = falling_powers(modulus, 0);
     for (i, c) in coefficients.iter().enumerate() {
         sum = add_scaled(modulus, &sum, *c, &term);
         next_falling(&mut term, modulus, i);

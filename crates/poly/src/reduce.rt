@@ -12,7 +12,7 @@ use crate::shift::{COEFFICIENTS, shift_in};
 use modulus::listed::{Modulus, PLACES};
 use modulus::refusal::{Refusal, check_room};
 
-// w(i) as a divisor: it is never 0.
+// w(i) as a divisor: it is never 0. The place fits `u32`, and the library has no `From` for that.
 fn divisor(modulus: &Modulus, i: usize) -> u32
     requires { i < 52 }
     ensures is { result ≡ w modulus.now.prime modulus.now.exponent i }
@@ -21,7 +21,7 @@ fn divisor(modulus: &Modulus, i: usize) -> u32
     modulus.bound(i as u32)
 }
 
-// A coefficient in place i, brought below the bound of its place.
+// A coefficient in place i, brought below the bound of its place; it stays in 16 bits.
 fn below_bound(modulus: &Modulus, i: usize, c: u16) -> u16
     requires { i < 52 }
     ensures { result ≡ c % w modulus.now.prime modulus.now.exponent i }
@@ -52,7 +52,8 @@ impl<'a> Coefficients<'a> {
         }
     }
 
-    // The Newton form, not yet reduced: from the last coefficient to the first, the form so far times X, and the coefficient.
+    // The Newton form, not yet reduced: from the last coefficient to the first, the form so far times X, and the coefficient,
+    // which is below the modulus and so has 16 bits.
     fn newton_form(&self) -> [u16; ROOM]
         ensures { (k : ℕ) → Cong self.now.modulus.now.value (pos (slice_index result k)) (to_newton ordinary (ints self.now.list.now) k) }
     {
@@ -71,7 +72,7 @@ impl<'a> Coefficients<'a> {
         std::array::from_fn(|i| below_bound(self.modulus, i, newton[i]))
     }
 
-    // Writes the reduced form to the front of the buffer.
+    // Writes the reduced form to the front of the buffer. For `u32` to `usize` the library has no `From`.
     fn write_reduced(&self, out: &mut [u16])
         requires { self.now.modulus.now.mu ≤ length out.old }
         ensures written { Reduces self.now.modulus.now.prime self.now.modulus.now.exponent (ints self.now.list.now) (take self.now.modulus.now.mu out.new) }

@@ -1,13 +1,13 @@
 use Rattle.std.proofs.Common.{◌≡◌, ℕ, length, get_or, ℤ, pos, refl, subst, arith, rules}
 use Rattle.poly.specs.Powers.{Holds}
 use Rattle.poly.proofs.Coefficients.{sum_of}
-use Rattle.poly.proofs.Held.{falling-none, sum-none, sum-next, form-held}
+use Rattle.poly.proofs.Held.{sum-none, sum-next, form-held}
 use Rattle.poly.proofs.powers.form_powers.Goals as goal
 
 pub loop-i-init : goal.loop-i-init
 loop-i-init c =
     let m = c.args.modulus.now in
-    (sum-none m.value 65 (λ (i : ℕ). pos (get_or c.args.coefficients.now i 0)) m.large, falling-none m.value 64 m.large)
+    (sum-none m.value 65 (λ (i : ℕ). pos (get_or c.args.coefficients.now i 0)) m.large, c.falling_powers-term.ensures)
 
 pub loop-i-preserved : goal.loop-i-preserved
 loop-i-preserved c =
