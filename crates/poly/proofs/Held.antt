@@ -1,9 +1,8 @@
 -- Lists that have the coefficients of a polynomial modulo m: falling factorials, sums of terms, forms, and a list in powers of X turned into a form.
 -- Assumes nothing.
-use Rattle.std.proofs.Common.{◌≡◌, ℕ, zero, suc, ◌+◌, ◌-◌, ◌*◌, ◌%◌, ◌<◌, ◌≤◌, List, [], ◌∷◌, length, get_or, take, replicate, ℤ, pos, ◌+ℤ◌, neg_ℤ, Ok, Err, Result, sym, ap, ◌∙◌, subst, mod-lt, add-one, arith, MatchResult}
-use native.Mathlib.Decide.{dec_lt}
+use Rattle.std.proofs.Common.{◌≡◌, ℕ, zero, suc, ◌+◌, ◌*◌, ◌%◌, ◌<◌, ◌≤◌, List, [], ◌∷◌, length, get_or, take, replicate, ℤ, pos, ◌+ℤ◌, neg_ℤ, Ok, Err, Result, sym, ap, ◌∙◌, subst, mod-lt, add-one, arith, MatchResult}
 use native.Mathlib.Nat.{zero-mod}
-use Rattle.std.proofs.lemmas.List.{get_or_past, length-take-le}
+use Rattle.std.proofs.lemmas.List.{length-take-le}
 use Rattle.modulus.specs.Congruence.{Cong}
 use Rattle.modulus.specs.declared.refusal.Refusal.{Refusal}
 use Rattle.modulus.proofs.Congruences.{cong_refl, cong_path, cong_sym, cong_trans, cong_add, cong_mul, cong_mod}

@@ -1,5 +1,5 @@
 -- The form that is reported for a table of values: that it is the reported one, and when a further value fits. Assumes nothing.
-use Rattle.std.proofs.Common.{◌≡◌, ℕ, zero, suc, ◌+◌, ◌-◌, ◌*◌, ◌%◌, ◌^◌, ◌<◌, ◌≤◌, List, [], ◌∷◌, ◌++◌, length, get_or, ℤ, pos, negsuc, ◌+ℤ◌, ◌-ℤ◌, ◌*ℤ◌, sym, ap, ◌∙◌, subst, le_refl, mod-lt, mod-eq_of_lt, arith, pow-add}
+use Rattle.std.proofs.Common.{◌≡◌, ℕ, zero, suc, ◌+◌, ◌*◌, ◌%◌, ◌^◌, ◌<◌, ◌≤◌, List, [], ◌∷◌, ◌++◌, length, get_or, ℤ, pos, negsuc, ◌+ℤ◌, ◌-ℤ◌, ◌*ℤ◌, sym, ap, ◌∙◌, subst, le_refl, mod-lt, mod-eq_of_lt, arith}
 use native.Mathlib.Decide.{dec_lt}
 use Rattle.std.proofs.lemmas.List.{length_push, get_or_push, get_or_append_left, get_or_past}
 use Rattle.modulus.specs.Congruence.{Cong}
@@ -7,7 +7,7 @@ use Rattle.modulus.specs.Moduli.{Listed}
 use Rattle.modulus.specs.Bounds.{factorial, v}
 use Rattle.modulus.proofs.Integers.{zring, zlin}
 use Rattle.modulus.proofs.Congruences.{cong_refl, cong_path, cong_sym, cong_trans, cong_add, cong_mul, cong_mod, cong_from_mod, mod_from_cong, same-from_cong}
-use Rattle.modulus.proofs.Exponents.{Parts, factorial-parts, power_positive}
+use Rattle.modulus.proofs.Exponents.{power_positive}
 use Rattle.modulus.proofs.Bounds.{listed-prime, w-positive}
 use Rattle.poly.specs.Polynomial.{Takes, Fits, DegreeBelow, form}
 use Rattle.poly.specs.Reduced.{Reduced, SameForm, form_length, Reported, falls, value_at, standing}

@@ -1,7 +1,6 @@
 use Rattle.std.proofs.Common.{◌≡◌, ℕ, List, get_or, ap, subst, rules}
 use Rattle.std.specs.Bool.{Decides}
 use Rattle.std.proofs.lemmas.List.{ext_get_or}
-use Rattle.std.proofs.lemmas.Slice.Eq.{slice_eq-Decides}
 use Rattle.modulus.specs.declared.listed.Modulus.{Modulus}
 use Rattle.poly.specs.Equivalents.{Reduces, ints}
 use Rattle.poly.proofs.Equivalents.{told_apart}

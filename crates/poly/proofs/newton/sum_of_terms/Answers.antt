@@ -1,5 +1,4 @@
-use Rattle.std.proofs.Common.{◌≡◌, ℕ, ◌+◌, ◌-◌, ◌*◌, ◌%◌, List, length, get_or, pos, sym, refl, ap, ◌∙◌, add-one, zero-add, mod-eq_of_lt, arith}
-use native.Mathlib.Nat.{zero-mod}
+use Rattle.std.proofs.Common.{◌≡◌, ℕ, ◌+◌, ◌-◌, ◌*◌, ◌%◌, List, length, get_or, pos, sym, ap, ◌∙◌, add-one, zero-add, arith}
 use Rattle.modulus.proofs.Congruences.{cong_refl, cong_sym, cong_add, cong_mul, cong_mod, cong_path, cong_trans, mod_from_cong}
 use Rattle.modulus.proofs.Division.{mul_mod_left}
 use Rattle.poly.proofs.Standing.{value-is}

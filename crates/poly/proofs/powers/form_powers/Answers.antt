@@ -1,4 +1,4 @@
-use Rattle.std.proofs.Common.{◌≡◌, ℕ, length, get_or, ℤ, pos, refl, subst, arith, rules}
+use Rattle.std.proofs.Common.{◌≡◌, ℕ, length, get_or, ℤ, pos, refl, subst, arith}
 use Rattle.poly.specs.Powers.{Holds}
 use Rattle.poly.proofs.Coefficients.{sum_of}
 use Rattle.poly.proofs.Held.{sum-none, sum-next, form-held}

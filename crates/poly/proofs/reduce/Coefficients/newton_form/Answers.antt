@@ -1,5 +1,5 @@
 use Rattle.std.proofs.Common.{◌≡◌, ℕ, ◌<◌, List, [], ◌∷◌, ◌++◌, length, get_or, pos, sym, ap, ◌∙◌, subst, append_assoc, length-append, arith, rules}
-use Rattle.std.proofs.lemmas.List.{append-nil, nil_from_length}
+use Rattle.std.proofs.lemmas.List.{append-nil}
 use Rattle.modulus.proofs.Congruences.{cong_path}
 use Rattle.modulus.specs.Congruence.{Cong}
 use Rattle.poly.specs.Basis.{ordinary, to_newton}

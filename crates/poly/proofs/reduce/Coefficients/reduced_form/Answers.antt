@@ -1,4 +1,4 @@
-use Rattle.std.proofs.Common.{◌≡◌, ℕ, ◌%◌, get_or, rules, arith}
+use Rattle.std.proofs.Common.{◌≡◌, ℕ, ◌%◌, get_or, rules}
 use Rattle.modulus.specs.Bounds.{w}
 use Rattle.poly.specs.Equivalents.{ints}
 use Rattle.poly.proofs.Arrays.{from_fn-at}

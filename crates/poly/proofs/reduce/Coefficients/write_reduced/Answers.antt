@@ -1,4 +1,4 @@
-use Rattle.std.proofs.Common.{◌≡◌, ℕ, List, length, take, sym, subst, rules}
+use Rattle.std.proofs.Common.{◌≡◌, ℕ, List, take, sym, subst, rules}
 use Rattle.std.proofs.lemmas.List.{length-take-le}
 use Rattle.poly.specs.Equivalents.{Reduces, ints}
 use Rattle.poly.proofs.Equivalents.{gives_back, reduces_front}
