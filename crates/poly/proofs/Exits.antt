@@ -14,4 +14,4 @@ pub refused-as : {T : Type 0} (r : Result T Refusal) (f g : Refusal) (P : T → 
 refused-as r f g P Q is which h = refused r f P Q is (subst Q (sym which) h)
 
 -- with these each refusal of a call is found
-pub ruleset refusals = (refused, refused-as, NoPowers.long, NoPowers.short, NoList.too_many, NoList.too_large, NoReduction.off_list, NoReduction.bad_list, NoReduction.no_room, NoComparison.off_list, NoComparison.bad_first, NoComparison.bad_second, NoNull.off_list, NoNull.far, NoNull.no_room)
+pub ruleset refusals = (refused, refused-as, NoPowers.long, NoPowers.short, NoList.too_many, NoReduction.off_list, NoReduction.bad_list, NoReduction.no_room, NoComparison.off_list, NoComparison.bad_first, NoComparison.bad_second, NoNull.off_list, NoNull.far, NoNull.no_room)

@@ -1,5 +1,5 @@
 -- The form that is reported for a table of values: that it is the reported one, and when a further value fits. Assumes nothing.
-use Rattle.std.proofs.Common.{◌≡◌, ℕ, zero, suc, ◌+◌, ◌*◌, ◌%◌, ◌^◌, ◌<◌, ◌≤◌, List, [], ◌∷◌, ◌++◌, length, get_or, ℤ, pos, negsuc, ◌+ℤ◌, ◌-ℤ◌, ◌*ℤ◌, sym, ap, ◌∙◌, subst, le_refl, mod-lt, mod-eq_of_lt, arith}
+use Rattle.std.proofs.Common.{◌≡◌, ℕ, zero, suc, ◌+◌, ◌-◌, ◌*◌, ◌%◌, ◌^◌, ◌<◌, ◌≤◌, List, [], ◌∷◌, ◌++◌, length, get_or, ℤ, pos, negsuc, ◌+ℤ◌, ◌-ℤ◌, ◌*ℤ◌, sym, ap, ◌∙◌, subst, le_refl, mod-lt, mod-eq_of_lt, arith, pow-add}
 use native.Mathlib.Decide.{dec_lt}
 use Rattle.std.proofs.lemmas.List.{length_push, get_or_push, get_or_append_left, get_or_past}
 use Rattle.modulus.specs.Congruence.{Cong}
@@ -7,7 +7,7 @@ use Rattle.modulus.specs.Moduli.{Listed}
 use Rattle.modulus.specs.Bounds.{factorial, v}
 use Rattle.modulus.proofs.Integers.{zring, zlin}
 use Rattle.modulus.proofs.Congruences.{cong_refl, cong_path, cong_sym, cong_trans, cong_add, cong_mul, cong_mod, cong_from_mod, mod_from_cong, same-from_cong}
-use Rattle.modulus.proofs.Exponents.{power_positive}
+use Rattle.modulus.proofs.Exponents.{Parts, factorial-parts, power_positive}
 use Rattle.modulus.proofs.Bounds.{listed-prime, w-positive}
 use Rattle.poly.specs.Polynomial.{Takes, Fits, DegreeBelow, form}
 use Rattle.poly.specs.Reduced.{Reduced, SameForm, form_length, Reported, falls, value_at, standing}
@@ -117,6 +117,21 @@ pub extended : (p e : ℕ) → Listed p e → (c c' : List ℕ) (n y d : ℕ) �
 extended p e h c c' n y d small z s t g =
     ap (λ (l : List ℕ). l ++ (value_at c' n % p ^ e) ∷ []) (standing-same (p ^ e) c' c n s)
     ∙ ap (λ (x : ℕ). standing (p ^ e) c n ++ x ∷ []) (ap (λ (x : ℕ). x % p ^ e) (value-extended c c' n d z s t) ∙ mod_from_cong g ∙ mod-eq_of_lt small)
+
+pub solvable_past : (p e : ℕ) → Listed p e → (n : ℕ) → e ≤ v p n → (d : ℕ) → Cong (p ^ e) (pos (d * factorial n)) (pos 0)
+solvable_past p e h n l d = record { times = pos (d * (p ^ (v p n - e) * parts.unit)); is = ap pos whole }
+  where
+    parts : Parts p (factorial n) (v p n)
+    parts = factorial-parts p (listed-prime p e h) n
+
+    regroup : (d a b u : ℕ) → d * (a * b * u) ≡ 0 + d * (b * u) * a
+    regroup d a b u = omega arith
+
+    whole : d * factorial n ≡ 0 + d * (p ^ (v p n - e) * parts.unit) * p ^ e
+    whole =
+        let split : v p n ≡ e + (v p n - e) = omega arith in
+        ap (λ (x : ℕ). d * x) (parts.is ∙ ap (λ (x : ℕ). x * parts.unit) (ap (λ (x : ℕ). p ^ x) split ∙ pow-add p e (v p n - e)))
+        ∙ regroup d (p ^ e) (p ^ (v p n - e)) parts.unit
 
 unit_ring : (z s q u : ℤ) → z *ℤ s *ℤ (q *ℤ u) ≡ q *ℤ z *ℤ (u *ℤ s)
 unit_ring z s q u = simp zring

@@ -12,6 +12,16 @@ use modulus::refusal::{Refusal, check_room};
 // with zeros behind it, since each factor X − i moves into the place behind the last coefficient.
 pub(crate) const ROOM: usize = COEFFICIENTS + 1;
 
+// Refuses a list of more than 64 coefficients.
+pub(crate) fn check_length(given: usize) -> Result<(), Refusal>
+    ensures { MatchResult result (λ _. given ≤ 64) (λ f. (64 < given) × (f ≡ Refusal.OutOfRange given)) }
+{
+    if given > COEFFICIENTS {
+        return Err(Refusal::OutOfRange { given });
+    }
+    Ok(())
+}
+
 // −i modulo p ^ e, in 16 bits. Both `as` lose nothing, and the library has no `From` for them.
 fn negative(modulus: &Modulus, i: usize) -> u16
     requires { i < 64 }
@@ -95,9 +105,7 @@ pub fn powers(modulus: &Modulus, coefficients: &[u16], out: &mut [u16]) -> Resul
     ensures { MatchResult result (λ n. (n ≡ length coefficients.now) × (n ≤ 64) × (n ≤ length out.old) × Holds modulus.now.value (form coefficients.now) n (take n out.new) × (drop n out.new ≡ drop n out.old)) (λ f. NoPowers (length coefficients.now) (length out.old) f × (out.new ≡ out.old)) }
 {
     let given = coefficients.len();
-    if given > COEFFICIENTS {
-        return Err(Refusal::OutOfRange { given });
-    }
+    check_length(given)?;
     check_room(out.len(), given)?;
     write_powers(modulus, coefficients, out);
     Ok(given)

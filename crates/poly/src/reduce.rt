@@ -7,8 +7,8 @@ ghost use Rattle.poly.specs.Basis.{ordinary, to_newton};
 ghost use Rattle.poly.specs.Equivalents.{GivesBack, Reduces, ints};
 ghost use Rattle.poly.specs.Powers.{NoList, NoReduction, Taken};
 
-use crate::powers::{ROOM, copy_front};
-use crate::shift::{COEFFICIENTS, shift_in};
+use crate::powers::{ROOM, check_length, copy_front};
+use crate::shift::shift_in;
 use modulus::listed::{Modulus, PLACES};
 use modulus::refusal::{Refusal, check_room};
 
@@ -39,13 +39,11 @@ pub(crate) struct Coefficients<'a> {
 
 impl<'a> Coefficients<'a> {
     // Refuses a list of more than 64 coefficients, and then the first coefficient that is not below the modulus.
+    #[tactic(auto, using(crate::proofs::Exits::refusals))]
     pub(crate) fn new(modulus: &'a Modulus, list: &'a [u32]) -> Result<Coefficients<'a>, Refusal>
         ensures { MatchResult result (λ c. (c.modulus.now ≡ modulus.now) × (c.list.now ≡ list.now)) (λ f. NoList modulus.now.value list.now f) }
     {
-        let given = list.len();
-        if given > COEFFICIENTS {
-            return Err(Refusal::OutOfRange { given });
-        }
+        check_length(list.len())?;
         match list.iter().position(|c| *c >= modulus.value()) {
             Some(place) => Err(Refusal::TooLarge { place }),
             None => Ok(Coefficients { modulus, list }),
