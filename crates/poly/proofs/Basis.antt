@@ -6,9 +6,7 @@ use Rattle.modulus.proofs.Congruences.{cong_refl, cong_path, cong_sym, cong_tran
 use Rattle.poly.specs.Basis.{to_newton}
 use Rattle.poly.specs.Polynomial.{value}
 use Rattle.poly.proofs.Points.{basis, newton, Laws, newton_past, everywhere, unique}
-
-zeros_ring : (x : ℤ) → pos 0 +ℤ x *ℤ pos 0 ≡ pos 0
-zeros_ring x = simp zring
+use Rattle.poly.proofs.Rings.{zeros_ring, none-ring, drop-ring}
 
 pub to_newton-past : (pt : ℕ → ℤ) (f : List ℤ) (i : ℕ) → length f ≤ i → to_newton pt f i ≡ pos 0
 to_newton-past pt [] i l = refl
@@ -31,12 +29,6 @@ newton_cons pt a f zero x = start_ring a (pt 0) (to_newton pt f 0) x
 newton_cons pt a f (suc k) x =
     ap (λ (z : ℤ). z +ℤ to_newton pt (a ∷ f) (suc k) *ℤ basis pt (suc k) x) (newton_cons pt a f k x)
     ∙ step-ring a x (newton pt (to_newton pt f) k x) (pt k) (to_newton pt f k) (basis pt k x) (pt (suc k)) (to_newton pt f (suc k))
-
-none-ring : (s b : ℤ) → s +ℤ pos 0 *ℤ b ≡ s
-none-ring s b = simp zring
-
-drop-ring : (s q b : ℤ) → s +ℤ q *ℤ pos 0 *ℤ b ≡ s
-drop-ring s q b = simp zring
 
 pub to_newton-value : (pt : ℕ → ℤ) (f : List ℤ) (k : ℕ) → length f ≤ k → (x : ℤ) → newton pt (to_newton pt f) k x ≡ value f x
 to_newton-value pt [] zero l x = refl

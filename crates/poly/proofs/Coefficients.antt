@@ -9,6 +9,7 @@ use Rattle.poly.specs.Equivalents.{Alike, SamePolynomial}
 use Rattle.poly.proofs.Points.{below_suc}
 use Rattle.poly.specs.Basis.{ordinary, to_newton}
 use Rattle.poly.proofs.Basis.{to_newton-past}
+use Rattle.poly.proofs.Rings.{zeros_ring, none-ring, drop-ring, form-ring}
 
 -- ---- sums, multiples and falling factorials
 pub get_or-plus : (f g : List ℤ) (k : ℕ) → get_or (plus f g) k (pos 0) ≡ get_or f k (pos 0) +ℤ get_or g k (pos 0)
@@ -30,9 +31,6 @@ pub get_or-times_less_suc : (a : ℤ) (f : List ℤ) (k : ℕ) → get_or (times
 get_or-times_less_suc a f k =
     get_or-plus (pos 0 ∷ f) (scaled (neg_ℤ a) f) (suc k) ∙ ap (λ (z : ℤ). get_or f k (pos 0) +ℤ z) (get_or-scaled (neg_ℤ a) f (suc k))
 
-zeros_ring : (x : ℤ) → pos 0 +ℤ x *ℤ pos 0 ≡ pos 0
-zeros_ring x = simp zring
-
 -- (X)_i has no coefficient past place i
 pub falling-past : (i k : ℕ) → i < k → get_or (falling i) k (pos 0) ≡ pos 0
 falling-past i zero l = absurd (omega arith)
@@ -51,9 +49,6 @@ pub get_or-sum_suc : (c : ℕ → ℤ) (n k : ℕ)
     → get_or (sum_of c (suc n)) k (pos 0) ≡ get_or (sum_of c n) k (pos 0) +ℤ c n *ℤ get_or (falling n) k (pos 0)
 get_or-sum_suc c n k =
     get_or-plus (sum_of c n) (scaled (c n) (falling n)) k ∙ ap (λ (z : ℤ). get_or (sum_of c n) k (pos 0) +ℤ z) (get_or-scaled (c n) (falling n) k)
-
-none-ring : (s b : ℤ) → s +ℤ pos 0 *ℤ b ≡ s
-none-ring s b = simp zring
 
 -- terms whose coefficients are 0 add nothing
 pub sum_of-stop : (c : ℕ → ℤ) (j n : ℕ) → j ≤ n → ((i : ℕ) → j ≤ i → c i ≡ pos 0) → (k : ℕ)
@@ -113,9 +108,6 @@ sum_of-cons_suc a f (suc n) k =
     ∙ ap (λ (z : ℤ). z +ℤ pos (suc n) *ℤ t (suc n) *ℤ (b +ℤ neg_ℤ (pos n) *ℤ c)) (sym (get_or-sum_suc t n k))
     ∙ ap (λ (z : ℤ). get_or (sum_of t (suc n)) k (pos 0) +ℤ pos (suc n) *ℤ t (suc n) *ℤ z) (sym last)
 
-drop-ring : (s q b : ℤ) → s +ℤ q *ℤ pos 0 *ℤ b ≡ s
-drop-ring s q b = simp zring
-
 -- f is the sum of its Newton coefficients times the falling factorials
 pub to_newton-polynomial : (f : List ℤ) (n : ℕ) → length f ≤ n → (k : ℕ) → get_or f k (pos 0) ≡ get_or (sum_of (to_newton ordinary f) n) k (pos 0)
 to_newton-polynomial [] n l k = sym (sum_of-stop (to_newton ordinary []) 0 n (omega arith) (λ i g. refl) k)
@@ -132,9 +124,6 @@ to_newton-polynomial (a ∷ f) (suc n) l (suc k) =
     ∙ drop-ring s (pos n) (get_or (falling n) (suc k) (pos 0)))
 
 -- ---- a Newton form
-form-ring : (a b f s : ℤ) → a *ℤ b +ℤ f +ℤ s ≡ f +ℤ (s +ℤ a *ℤ b)
-form-ring a b f s = simp zring
-
 -- the terms below j and the form from j on make up the whole
 form-sum_from : (c : List ℕ) (d : ℕ → ℤ) (j n : ℕ) → j + length c ≤ n → ((i t : ℕ) → t ≡ j + i → d t ≡ pos (get_or c i 0)) → (k : ℕ)
     → get_or (form_from j c) k (pos 0) +ℤ get_or (sum_of d j) k (pos 0) ≡ get_or (sum_of d n) k (pos 0)

@@ -19,6 +19,7 @@ use Rattle.poly.proofs.Falling.{ordinary-laws}
 use Rattle.poly.proofs.Standing.{value-is, value_same, front_same}
 use Rattle.poly.proofs.Reports.{coefficients, same-from_values}
 use Rattle.poly.proofs.Coefficients.{get_or-plus, get_or-scaled, sum_of, get_or-sum_suc, to_newton-polynomial, same_alike}
+use Rattle.poly.proofs.Rings.{zeros_ring}
 
 -- ---- the reduced form
 -- one form has one list of values
@@ -100,9 +101,6 @@ null_at-null p e h i x =
     (cong_path (p ^ e) (value-scaled (pos (w p e i)) (falling i) (pos x) ∙ ap (λ (z : ℤ). pos (w p e i) *ℤ z) (value-falling i (pos x))))
     (vanish (ordinary-laws p e h) i x)
 
-zeros_ring : (x : ℤ) → pos 0 +ℤ x *ℤ pos 0 ≡ pos 0
-zeros_ring x = simp zring
-
 pub combination-null : (p e : ℕ) → Listed p e → (k : ℕ → ℤ) (n : ℕ) → Null (p ^ e) (combination p e k n)
 combination-null p e h k zero x = cong_refl (p ^ e) (pos 0)
 combination-null p e h k (suc n) x =
@@ -164,20 +162,20 @@ triangle (suc x) = let t = triangle x in (t.0 + suc x, omega (arith, t.1))
 pub null_example : Null 4 (pos 0 ∷ pos 2 ∷ pos 2 ∷ [])
 null_example x = record { times = pos (triangle x).0; is = ap (λ (n : ℕ). pos (0 + n)) (triangle x).1 }
 
--- ---- remainders by the bounds of a Newton form that is not reduced yet
-pub reduces_remainders : (p e m u : ℕ) → Listed p e → m ≡ p ^ e → Mu p e u → (f : List ℤ) (ks c : List ℕ) → ((k : ℕ) → Cong m (pos (get_or ks k 0)) (to_newton ordinary f k))
-    → ((k : ℕ) → k < u → get_or c k 0 ≡ get_or ks k 0 % w p e k) → ((k : ℕ) → u ≤ k → get_or c k 0 ≡ 0) → Reduces p e f c
-reduces_remainders p e m u listed is mu f ks c held low past =
+-- ---- remainders by the bounds of a Newton form that is not reduced yet, at all of n places
+pub reduces_remainders : (p e m u n : ℕ) → Listed p e → m ≡ p ^ e → Mu p e u → u ≤ n → (f : List ℤ) (ks c : List ℕ) → length c ≡ n
+    → ((k : ℕ) → Cong m (pos (get_or ks k 0)) (to_newton ordinary f k)) → ((k : ℕ) → k < n → get_or c k 0 ≡ get_or ks k 0 % w p e k) → Reduces p e f c
+reduces_remainders p e m u n listed is mu few f ks c long held made =
     reduces p e listed f c u mu small
-    (λ i lt. cong_trans (cong_path (w p e i) (ap pos (low i lt)))
+    (λ i lt. cong_trans (cong_path (w p e i) (ap pos (made i (omega arith))))
     (cong_trans (cong_sym (cong_mod (w p e i) (get_or ks i 0))) (cong_lower p e (v p i) (subst (λ (n : ℕ). Cong n (pos (get_or ks i 0)) (to_newton ordinary f i)) is (held i)))))
   where
     small : (i : ℕ) → get_or c i 0 < w p e i
-    small i = go (dec_lt i u)
+    small i = go (dec_lt i n)
       where
-        go : Dec (i < u) → get_or c i 0 < w p e i
-        go (yes lt) = rw (low i lt) (mod-lt (get_or ks i 0) (w-positive p e i listed))
-        go (no ge) = rw (past i (omega arith)) (w-positive p e i listed)
+        go : Dec (i < n) → get_or c i 0 < w p e i
+        go (yes lt) = rw (made i lt) (mod-lt (get_or ks i 0) (w-positive p e i listed))
+        go (no ge) = rw (get_or_past c i 0 (omega arith)) (w-positive p e i listed)
 
 -- a form that is the same in every place serves as well
 pub reduces_same : (p e : ℕ) (f : List ℤ) (c d : List ℕ) → Reduces p e f c → SameForm d c → Reduces p e f d
@@ -188,5 +186,12 @@ reduces_same p e f c d h same =
       only = λ b reduced alike i. h.only b reduced alike i ∙ sym (same i);
     }
 
-pub reduces_front : (p e : ℕ) (f : List ℤ) (c : List ℕ) (n : ℕ) → Reduces p e f c → ((k : ℕ) → n ≤ k → get_or c k 0 ≡ 0) → Reduces p e f (take n c)
-reduces_front p e f c n h clear = reduces_same p e f c (take n c) h (front_same c n clear)
+-- a reduced form has no coefficient from place μ on
+pub reduced-past : (p e u : ℕ) → Mu p e u → (c : List ℕ) → Reduced p e c → (k : ℕ) → u ≤ k → get_or c k 0 ≡ 0
+reduced-past p e u mu c reduced k le =
+    let one : w p e k ≡ 1 = w-past p e u k mu le in
+    omega (arith, reduced k)
+
+-- so its first μ coefficients are all of it
+pub reduces_front : (p e u : ℕ) (f : List ℤ) (c : List ℕ) → Mu p e u → Reduces p e f c → Reduces p e f (take u c)
+reduces_front p e u f c mu h = reduces_same p e f c (take u c) h (front_same c u (reduced-past p e u mu c h.reduced))

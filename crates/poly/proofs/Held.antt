@@ -1,9 +1,8 @@
 -- Lists that have the coefficients of a polynomial modulo m: falling factorials, sums of terms, forms, and a list in powers of X turned into a form.
 -- Assumes nothing.
-use Rattle.std.proofs.Common.{◌≡◌, ℕ, zero, suc, ◌+◌, ◌-◌, ◌*◌, ◌%◌, ◌<◌, ◌≤◌, List, [], ◌∷◌, length, get_or, take, drop, replicate, ℤ, pos, ◌+ℤ◌, neg_ℤ, Ok, Err, Result, sym, ap, ◌∙◌, mod-lt, add-one, arith, MatchResult}
-use native.Mathlib.Decide.{dec_lt}
+use Rattle.std.proofs.Common.{◌≡◌, ℕ, zero, suc, ◌+◌, ◌*◌, ◌%◌, ◌<◌, ◌≤◌, List, [], ◌∷◌, length, get_or, take, replicate, ℤ, pos, ◌+ℤ◌, neg_ℤ, Ok, Err, Result, sym, ap, ◌∙◌, subst, mod-lt, add-one, arith, MatchResult}
 use native.Mathlib.Nat.{zero-mod}
-use Rattle.std.proofs.lemmas.List.{get_or_past, drop_more}
+use Rattle.std.proofs.lemmas.List.{length-take-le}
 use Rattle.modulus.specs.Congruence.{Cong}
 use Rattle.modulus.specs.declared.refusal.Refusal.{Refusal}
 use Rattle.modulus.proofs.Congruences.{cong_refl, cong_path, cong_sym, cong_trans, cong_add, cong_mul, cong_mod}
@@ -32,6 +31,11 @@ held_front m f n xs held =
       below = λ k. rw (same k) (held.below k);
       clear = λ k le. same k ∙ held.clear k le;
     }
+
+-- and in a buffer whose front is a copy of it
+pub held_copy : (m : ℕ) (f : List ℤ) (n : ℕ) (xs out : List ℕ) → n ≤ length xs → Holds m f n xs → take (length (take n xs)) out ≡ take n xs → Holds m f n (take n out)
+held_copy m f n xs out room held copied =
+    subst (λ (ys : List ℕ). Holds m f n ys) (sym (subst (λ (k : ℕ). take k out ≡ take n xs) (length-take-le n xs room) copied)) (held_front m f n xs held)
 
 -- ---- falling factorials
 -- (X)_0
@@ -76,21 +80,10 @@ sum-none m n g h =
       clear = λ k _. zeros n k;
     }
 
-pub sum-next : (m i c : ℕ) (g : ℕ → ℤ) (xs ys zs : List ℕ) → 1 < m → length ys ≡ length xs → length zs ≡ length xs → g i ≡ pos c
-    → Holds m (sum_of g i) i xs → Holds m (falling i) (i + 1) ys
-    → ((k : ℕ) → k < length xs → get_or zs k 0 ≡ (get_or xs k 0 + c * get_or ys k 0) % m) → Holds m (sum_of g (i + 1)) (i + 1) zs
-sum-next m i c g xs ys zs h ly lz is held falls added = record { is = rw add-one (to_same m (sum_of g (suc i)) zs agrees); below = small; clear = past }
+pub sum-next : (m i c : ℕ) (g : ℕ → ℤ) (xs ys zs : List ℕ) → 1 < m → g i ≡ pos c → Holds m (sum_of g i) i xs → Holds m (falling i) (i + 1) ys
+    → ((k : ℕ) → get_or zs k 0 ≡ (get_or xs k 0 + c * get_or ys k 0) % m) → Holds m (sum_of g (i + 1)) (i + 1) zs
+sum-next m i c g xs ys zs h is held falls at = record { is = rw add-one (to_same m (sum_of g (suc i)) zs agrees); below = small; clear = past }
   where
-    at : (k : ℕ) → get_or zs k 0 ≡ (get_or xs k 0 + c * get_or ys k 0) % m
-    at k = go (dec_lt k (length xs))
-      where
-        go : Dec (k < length xs) → get_or zs k 0 ≡ (get_or xs k 0 + c * get_or ys k 0) % m
-        go (yes lt) = added k lt
-        go (no ge) =
-            get_or_past zs k 0 (omega arith)
-            ∙ sym (ap (λ (a : ℕ). (a + c * get_or ys k 0) % m) (get_or_past xs k 0 (omega arith)) ∙ ap (λ (a : ℕ). (0 + c * a) % m) (get_or_past ys k 0 (omega arith))
-            ∙ ap (λ (a : ℕ). a % m) (let z : 0 + c * 0 ≡ 0 = omega arith in z) ∙ zero-mod m)
-
     agrees : (k : ℕ) → Cong m (pos (get_or zs k 0)) (get_or (sum_of g (suc i)) k (pos 0))
     agrees k =
         cong_trans (cong_path m (ap pos (at k)))
@@ -111,19 +104,10 @@ form-held m cs xs held =
     record { is = λ k. cong_trans (held.is k) (cong_path m (sym (form-sum cs (length cs) (omega arith) k))); below = held.below; clear = held.clear }
 
 -- ---- multiples of a polynomial
-pub scaled-held : (m n c : ℕ) (b : ℤ) (f : List ℤ) (xs zs : List ℕ) → 1 < m → length zs ≡ length xs → Cong m (pos c) b → Holds m f n xs
-    → ((k : ℕ) → k < length xs → get_or zs k 0 ≡ (0 + c * get_or xs k 0) % m) → Holds m (scaled b f) n zs
-scaled-held m n c b f xs zs h len is held made = record { is = to_same m (scaled b f) zs agrees; below = small; clear = past }
+pub scaled-held : (m n c : ℕ) (b : ℤ) (f : List ℤ) (xs zs : List ℕ) → 1 < m → Cong m (pos c) b → Holds m f n xs
+    → ((k : ℕ) → get_or zs k 0 ≡ (0 + c * get_or xs k 0) % m) → Holds m (scaled b f) n zs
+scaled-held m n c b f xs zs h is held at = record { is = to_same m (scaled b f) zs agrees; below = small; clear = past }
   where
-    at : (k : ℕ) → get_or zs k 0 ≡ (0 + c * get_or xs k 0) % m
-    at k = go (dec_lt k (length xs))
-      where
-        go : Dec (k < length xs) → get_or zs k 0 ≡ (0 + c * get_or xs k 0) % m
-        go (yes lt) = made k lt
-        go (no ge) =
-            get_or_past zs k 0 (omega arith)
-            ∙ sym (ap (λ (a : ℕ). (0 + c * a) % m) (get_or_past xs k 0 (omega arith)) ∙ ap (λ (a : ℕ). a % m) (let z : 0 + c * 0 ≡ 0 = omega arith in z) ∙ zero-mod m)
-
     agrees : (k : ℕ) → Cong m (pos (get_or zs k 0)) (get_or (scaled b f) k (pos 0))
     agrees k =
         cong_trans (cong_path m (ap pos (at k ∙ ap (λ (a : ℕ). a % m) (let z : 0 + c * get_or xs k 0 ≡ c * get_or xs k 0 = omega arith in z))))
@@ -151,21 +135,6 @@ newton_next m a n f ks room held clear =
     (λ k. cong_trans (cong_path m (ap pos (shifted_next m a 0 1 ks (λ j le. clear j (omega arith)) k)))
     (cong_trans (cong_sym (cong_mod m (get_or ks k 0 + (0 + 1 * suc k) * get_or ks (suc k) 0)))
     (cong_path m (ap (λ (t : ℕ). pos (get_or ks k 0 + t * get_or ks (suc k) 0)) (let e : 0 + 1 * suc k ≡ suc k = omega arith in e)))))
-
--- and so in a walk from the end of the list to its start
-pub newton_walk : (m i : ℕ) (xs ks ls : List ℕ) → 0 < i → i ≤ length xs → length xs - i < length ks
-    → ((k : ℕ) → Cong m (pos (get_or ks k 0)) (to_newton ordinary (ints (drop i xs)) k)) → ((k : ℕ) → length xs - i ≤ k → get_or ks k 0 ≡ 0)
-    → ls ≡ shifted m (get_or xs (i - 1) 0) 0 1 ks
-    → ((k : ℕ) → Cong m (pos (get_or ls k 0)) (to_newton ordinary (ints (drop (i - 1) xs)) k)) × ((k : ℕ) → length xs - (i - 1) ≤ k → get_or ls k 0 ≡ 0)
-newton_walk m i xs ks ls some le room held clear is =
-    let a : ℕ = get_or xs (i - 1) 0 in
-    let back : i - 1 + 1 ≡ i = omega arith in
-    let front : drop (i - 1) xs ≡ a ∷ drop i xs = drop_more xs (i - 1) 0 (omega arith) ∙ ap (λ (j : ℕ). a ∷ drop j xs) back in
-    let one : length xs - (i - 1) ≡ suc (length xs - i) = omega arith in (
-      λ k. cong_trans (cong_path m (ap (λ (ys : List ℕ). pos (get_or ys k 0)) is))
-          (cong_trans (newton_next m a (length xs - i) (ints (drop i xs)) ks room held clear k) (cong_path m (ap (λ (ys : List ℕ). to_newton ordinary (ints ys) k) (sym front)))),
-      λ k h. ap (λ (ys : List ℕ). get_or ys k 0) is ∙ shifted-clear m a 0 1 ks (length xs - i) room clear k (omega arith),
-    )
 
 -- ---- a form that is short enough and fits the buffer is not refused
 not_refused : (n room : ℕ) (f : Refusal) → n ≤ 64 → n ≤ room → NoPowers n room f → ⊥

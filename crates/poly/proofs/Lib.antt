@@ -1,3 +1,4 @@
+pub mod Rings
 pub mod Basis
 pub mod Points
 pub mod Values
@@ -8,3 +9,5 @@ pub mod Coefficients
 pub mod Equivalents
 pub mod Shifts
 pub mod Held
+pub mod Arrays
+pub mod Exits

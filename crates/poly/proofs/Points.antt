@@ -4,6 +4,7 @@ use lib.IntN.{zero-*ℤ}
 use Rattle.modulus.specs.Congruence.{Cong}
 use Rattle.modulus.proofs.Integers.{zring, zlin}
 use Rattle.modulus.proofs.Congruences.{cong_refl, cong_path, cong_sym, cong_trans, cong_add, cong_mul, cong_rest, cong_cancel_power}
+use Rattle.poly.proofs.Rings.{one_ring}
 
 -- the product of x − pt j over j below i
 abbrev pub basis : (ℕ → ℤ) → ℕ → ℤ → ℤ
@@ -96,9 +97,6 @@ everywhere {p} {e} L c d (suc k) h t = cong_add (everywhere L c d k (λ i l. h i
 -- ---- and conversely: forms that agree at the first n points have coefficients that agree so below n
 unit_ring : (a q x v : ℤ) → a *ℤ (q *ℤ x) *ℤ v ≡ a *ℤ q *ℤ (x *ℤ v)
 unit_ring a q x v = simp zring
-
-one_ring : (a q : ℤ) → a *ℤ q *ℤ pos 1 ≡ a *ℤ q
-one_ring a q = simp zring
 
 -- the unit and then the power of p are stripped from a term at its own point
 pub strip : {p e : ℕ} {pt : ℕ → ℤ} {ω : ℕ → ℕ} {a b : ℤ} (L : Laws p e pt ω) (i : ℕ)

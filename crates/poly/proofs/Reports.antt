@@ -16,6 +16,7 @@ use Rattle.poly.proofs.Basis.{exact, least}
 use Rattle.poly.specs.Basis.{ordinary}
 use Rattle.poly.proofs.Falling.{falls-self, basis_falls, ordinary-laws}
 use Rattle.poly.proofs.Standing.{newton_is, value-is, sum_to-same, value_at-stop, value_at-past, length-standing, standing-at, standing-same, form_length-le, form_length-past}
+use Rattle.poly.proofs.Rings.{one_ring}
 
 -- ---- what a form takes
 pub value-standing : (m : ℕ) (c : List ℕ) (n i : ℕ) → i < n → Cong m (pos (value_at c i)) (pos (get_or (standing m c n) i 0))
@@ -134,9 +135,6 @@ solvable_past p e h n l d = record { times = pos (d * (p ^ (v p n - e) * parts.u
 
 unit_ring : (z s q u : ℤ) → z *ℤ s *ℤ (q *ℤ u) ≡ q *ℤ z *ℤ (u *ℤ s)
 unit_ring z s q u = simp zring
-
-one_ring : (q z : ℤ) → q *ℤ z *ℤ pos 1 ≡ q *ℤ z
-one_ring q z = simp zring
 
 back_ring : (a y : ℤ) → a +ℤ (y -ℤ a) ≡ y
 back_ring a y = omega zlin

@@ -14,10 +14,6 @@ get_or-ints [] k = refl
 get_or-ints (x ∷ xs) zero = refl
 get_or-ints (x ∷ xs) (suc k) = get_or-ints xs k
 
-pub length-ints : (xs : List ℕ) → length (ints xs) ≡ length xs
-length-ints [] = refl
-length-ints (x ∷ xs) = ap suc (length-ints xs)
-
 pub length-shifted : (m b t by : ℕ) (cs : List ℕ) → length (shifted m b t by cs) ≡ length cs
 length-shifted m b t by [] = refl
 length-shifted m b t by (c ∷ cs) = ap suc (length-shifted m c (t + by) by cs)

@@ -4,6 +4,7 @@ use lib.IntN.{+ℤ_idl, +ℤ_idr, *ℤ-zero}
 use Rattle.modulus.proofs.Integers.{zring}
 use Rattle.poly.specs.Polynomial.{value, plus, scaled, times_less, falling, form_from, form}
 use Rattle.poly.proofs.Points.{basis, newton, below_suc}
+use Rattle.poly.proofs.Rings.{none-ring, form-ring}
 
 plus-ring : (a b x f g : ℤ) → a +ℤ b +ℤ x *ℤ (f +ℤ g) ≡ a +ℤ x *ℤ f +ℤ (b +ℤ x *ℤ g)
 plus-ring a b x f g = simp zring
@@ -37,9 +38,6 @@ pub value-falling : (i : ℕ) (x : ℤ) → value (falling i) x ≡ basis (λ (k
 value-falling zero x = one_ring x
 value-falling (suc i) x = value-times_less (pos i) (falling i) x ∙ swap_ring (x -ℤ pos i) (value (falling i) x) ∙ ap (λ (z : ℤ). z *ℤ (x -ℤ pos i)) (value-falling i x)
 
-none-ring : (s b : ℤ) → s +ℤ pos 0 *ℤ b ≡ s
-none-ring s b = simp zring
-
 -- terms whose coefficients are 0 add nothing
 pub newton_stop : (pt c : ℕ → ℤ) (j k : ℕ) → j ≤ k → ((i : ℕ) → j ≤ i → c i ≡ pos 0) → (x : ℤ) → newton pt c k x ≡ newton pt c j x
 newton_stop pt c j zero l h x =
@@ -50,9 +48,6 @@ newton_stop pt c j (suc k) l h x =
     (λ j l h. ap (λ (z : ℤ). newton pt c k x +ℤ z *ℤ basis pt k x) (h k (omega arith)) ∙ none-ring (newton pt c k x) (basis pt k x) ∙ newton_stop pt c j k (omega arith) h x)
     (λ h. refl)
     j (omega arith) h
-
-form-ring : (a b f s : ℤ) → a *ℤ b +ℤ f +ℤ s ≡ f +ℤ (s +ℤ a *ℤ b)
-form-ring a b f s = simp zring
 
 -- the terms below j and the form from j on make up the whole
 pub value-form_from : (c : List ℕ) (d : ℕ → ℤ) (j k : ℕ) → j + length c ≤ k → ((i t : ℕ) → t ≡ j + i → d t ≡ pos (get_or c i 0)) → (x : ℤ)

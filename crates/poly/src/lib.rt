@@ -6,4 +6,5 @@ pub mod newton;
 pub mod null;
 pub mod powers;
 pub mod reduce;
+mod residue;
 pub mod shift;

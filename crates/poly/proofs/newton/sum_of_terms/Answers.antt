@@ -1,23 +1,9 @@
-use Rattle.std.proofs.Common.{◌≡◌, ℕ, ◌+◌, ◌-◌, ◌*◌, ◌%◌, ◌<◌, ◌≤◌, List, length, get_or, pos, sym, ap, ◌∙◌, mod-lt, mod-eq_of_lt, add-one, arith}
-use native.Mathlib.Nat.{zero-mod}
+use Rattle.std.proofs.Common.{◌≡◌, ℕ, ◌+◌, ◌-◌, ◌*◌, ◌%◌, List, length, get_or, pos, sym, ap, ◌∙◌, add-one, zero-add, arith}
 use Rattle.modulus.proofs.Congruences.{cong_refl, cong_sym, cong_add, cong_mul, cong_mod, cong_path, cong_trans, mod_from_cong}
-use Rattle.modulus.proofs.Division.{product_small, mul_mod_left}
+use Rattle.modulus.proofs.Division.{mul_mod_left}
 use Rattle.poly.proofs.Standing.{value-is}
 use Rattle.poly.specs.Reduced.{falls, sum_to, value_at}
 use Rattle.poly.proofs.newton.sum_of_terms.Goals as goal
-
-pub loop-c-init : goal.loop-c-init
-loop-c-init c = (sym (zero-mod c.args.m), sym (mod-eq_of_lt c.requires.above), omega (arith, c.from-factor.ensures))
-
--- a remainder of the modulus has at most 16 bits
-small : (a b n : ℕ) → a ≡ b % n → 1 < n → n ≤ 65536 → a ≤ 65535
-small a b n e h k = omega (arith, mod-lt b (let some : 0 < n = omega arith in some))
-
-pub overflow_mul-sum : goal.overflow_mul-sum
-overflow_mul-sum c =
-    let element : c.from.result ≤ 65535 = omega (arith, c.from.ensures, (c.type_inv.coefficients c.loop-c.c-index).fits) in
-    let product = small c.loop-c.product (falls c.args.x c.loop-c.c-index) c.args.m c.loop-c.invariant.1 c.requires.above c.requires.small in
-    record { fits = omega (arith, product_small c.from.result c.loop-c.product element product) }
 
 -- one term more
 sum_more : (cs : List ℕ) (x i m s f a : ℕ) → s ≡ sum_to cs x i % m → f ≡ falls x i % m → a ≡ get_or cs i 0 → (s + a * f) % m ≡ sum_to cs x (i + 1) % m
@@ -26,21 +12,18 @@ sum_more cs x i m s f a hs hf ha =
     ∙ mod_from_cong (cong_add (cong_sym (cong_mod m (sum_to cs x i))) (cong_mul (cong_refl m (pos (get_or cs i 0))) (cong_sym (cong_mod m (falls x i))))) ∙ rw add-one
 
 -- one factor more
-product_more : (x i m f g : ℕ) → f ≡ falls x i % m → g ≡ x - i → (f * g) % m ≡ falls x (i + 1) % m
+product_more : (x i m f g : ℕ) → f ≡ falls x i % m → g ≡ x - i → (0 + f * g) % m ≡ falls x (i + 1) % m
 product_more x i m f g hf hg =
-    ap (λ (n : ℕ). (n * g) % m) hf ∙ mul_mod_left m (falls x i) g ∙ ap (λ (n : ℕ). (falls x i * n) % m) hg ∙ rw add-one
+    ap (λ (n : ℕ). n % m) (zero-add (f * g)) ∙ ap (λ (n : ℕ). (n * g) % m) hf ∙ mul_mod_left m (falls x i) g ∙ ap (λ (n : ℕ). (falls x i * n) % m) hg ∙ rw add-one
 
 pub loop-c-preserved : goal.loop-c-preserved
-loop-c-preserved c =
-    let inv = c.loop-c.invariant in
-    let i = c.loop-c.c-index in
-    (sum_more c.args.coefficients.now c.args.x i c.args.m c.loop-c.sum c.loop-c.product c.from.result inv.0 inv.1 c.from.ensures, product_more c.args.x i c.args.m c.loop-c.product c.loop-c.factor inv.1 inv.2, omega (arith, c.saturating_sub-factor.ensures, inv.2))
+loop-c-preserved c = grind (arith, sum_more, product_more)
 
 pub returns : goal.returns
 returns c =
     let cs = c.args.coefficients.now in
     let x = c.args.x in
-    let m = c.args.m in
+    let m = c.args.modulus.now.value in
     let all : c.loop-c.c-index ≡ length cs = omega arith in
     let is : c.loop-c.sum ≡ value_at cs x % m = c.loop-c.invariant.0 ∙ ap (λ (n : ℕ). sum_to cs x n % m) all in
     record { is = is; polynomial = cong_trans (cong_path m (ap pos is)) (cong_trans (cong_sym (cong_mod m (value_at cs x))) (cong_path m (sym (value-is cs x)))) }

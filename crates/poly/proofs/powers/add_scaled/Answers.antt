@@ -1,20 +1,27 @@
-use Rattle.std.proofs.Common.{◌≡◌, ℕ, ◌+◌, ◌*◌, ◌%◌, ◌<◌, length, get_or, set, ap, ◌∙◌, arith, below_more}
-use Rattle.std.proofs.lemmas.List.{get_or-set_same, get_or-set_other}
+use Rattle.std.proofs.Common.{◌≡◌, ℕ, ◌+◌, ◌*◌, ◌%◌, ◌<◌, List, length, get_or, sym, ap, ◌∙◌, arith, rules}
+use native.Mathlib.Decide.{dec_lt}
+use native.Mathlib.Nat.{zero-mod}
+use Rattle.std.proofs.lemmas.List.{get_or_past}
+use Rattle.poly.proofs.Arrays.{from_fn-at}
 use Rattle.poly.proofs.powers.add_scaled.Goals as goal
 
-pub loop-k-preserved : goal.loop-k-preserved
-loop-k-preserved c =
-    let k = c.loop-k.k in
-    let l = c.loop-k.sum in
-    let v = (c.from.result + c.from-in-loop-k.result * c.from-in-loop-k-2.result) % c.args.m in
-    let lt : k < length l = omega arith in
-    let P : ℕ → Type 0 = λ j. get_or (set l k v) j 0 ≡ (get_or c.args.sum.now j 0 + c.args.c * get_or c.args.list.now j 0) % c.args.m in
-    let here : c.from.result ≡ get_or c.args.sum.now k 0 = c.from.ensures ∙ c.loop-k.invariant.1 k (omega arith) in
-    let value : v ≡ (get_or c.args.sum.now k 0 + c.args.c * get_or c.args.list.now k 0) % c.args.m =
-    ap (λ (a : ℕ). (a + c.from-in-loop-k.result * c.from-in-loop-k-2.result) % c.args.m) here
-    ∙ ap (λ (a : ℕ). (get_or c.args.sum.now k 0 + a * c.from-in-loop-k-2.result) % c.args.m) c.from-in-loop-k.ensures
-    ∙ ap (λ (a : ℕ). (get_or c.args.sum.now k 0 + c.args.c * a) % c.args.m) c.from-in-loop-k-2.ensures in
-    (below_more P k (λ j h. get_or-set_other l k j v 0 (omega arith) ∙ c.loop-k.invariant.0 j h) (get_or-set_same l k v 0 lt ∙ value), λ j h. get_or-set_other l k j v 0 (omega arith) ∙ c.loop-k.invariant.1 j (omega arith))
+-- past the lists both sides are 0
+everywhere : (m a n : ℕ) (xs ys zs : List ℕ) → length xs ≡ n → length ys ≡ n → length zs ≡ n
+    → ((k : ℕ) → k < n → get_or zs k 0 ≡ (get_or xs k 0 + a * get_or ys k 0) % m) → (k : ℕ) → get_or zs k 0 ≡ (get_or xs k 0 + a * get_or ys k 0) % m
+everywhere m a n xs ys zs lx ly lz within k = go (dec_lt k n)
+  where
+    go : Dec (k < n) → get_or zs k 0 ≡ (get_or xs k 0 + a * get_or ys k 0) % m
+    go (yes lt) = within k lt
+    go (no ge) =
+        get_or_past zs k 0 (omega arith)
+        ∙ sym (ap (λ (x : ℕ). (x + a * get_or ys k 0) % m) (get_or_past xs k 0 (omega arith)) ∙ ap (λ (y : ℕ). (0 + a * y) % m) (get_or_past ys k 0 (omega arith)) ∙ ap (λ (x : ℕ). x % m) (let z : 0 + a * 0 ≡ 0 = omega arith in z) ∙ zero-mod m)
 
 pub returns : goal.returns
-returns c = λ k h. c.loop-k.invariant.0 k (omega arith)
+returns c =
+    let m = c.args.modulus.now.value in
+    let xs = c.args.sum.now in
+    let ys = c.args.list.now in
+    let zs = c.from_fn.result in
+    let P : ℕ → ℕ → Type 0 = λ k y. y ≡ (get_or xs k 0 + c.args.c * get_or ys k 0) % m in
+    everywhere m c.args.c 65 xs ys zs (search rules) (search rules) c.from_fn.ensures.items.long
+    (λ k lt. from_fn-at _ _ P (λ i y q called. search rules) zs 65 c.from_fn.ensures.items k 0 lt)

@@ -1,4 +1,4 @@
-use Rattle.std.proofs.Common.{ℕ, ◌+◌, ◌<◌, List, pos, sym, ap, subst, arith}
+use Rattle.std.proofs.Common.{ℕ, ◌+◌, ◌<◌, List, length, pos, sym, ap, subst, arith, rules}
 use Rattle.modulus.proofs.Congruences.{cong_path, cong_trans}
 use Rattle.poly.specs.Polynomial.{falling}
 use Rattle.poly.specs.Powers.{Holds}
@@ -8,8 +8,10 @@ use Rattle.poly.proofs.powers.next_falling.Goals as goal
 
 pub returns : goal.returns
 returns c =
-    let m = c.args.m in
+    let m = c.args.modulus.now.value in
     let i = c.args.i in
-    let some : 0 < m = omega (arith, c.requires.above) in
+    let large = c.args.modulus.now.large in
+    let some : 0 < m = omega arith in
+    let room : i + 1 < length c.args.list.now = search rules in
     subst (λ (xs : List ℕ). Holds m (falling (i + 1)) (i + 1 + 1) xs) (sym c.shift_in.ensures)
-    (falling-next m i c.negative.result c.args.list.now c.requires.above (omega (arith, c.requires.room)) (cong_trans (cong_path m (ap pos c.negative.ensures)) (cong_minus m i some)) c.requires.holds)
+    (falling-next m i c.negative.result c.args.list.now large (omega arith) (cong_trans (cong_path m (ap pos c.negative.ensures)) (cong_minus m i some)) c.requires.holds)

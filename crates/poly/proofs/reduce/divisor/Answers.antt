@@ -1,7 +1,6 @@
+use Rattle.std.proofs.Common.{arith}
 use Rattle.modulus.proofs.Bounds.{w-positive}
 use Rattle.poly.proofs.reduce.divisor.Goals as goal
 
-pub returns : goal.returns
-returns c =
-    let m = c.args.modulus.now in
-    record { is = c.bound.ensures; some = rw c.bound.ensures (w-positive m.prime m.exponent c.args.i m.listed) }
+pub returns-clause-some : goal.returns-clause-some
+returns-clause-some c = grind (arith, w-positive)
