@@ -26,9 +26,9 @@ use Rattle.job.specs.declared.page.Figures.{Figures}
 
 -- ---- no refusal
 -- a call is answered where no refusal of it can be
-pub answered : {T : Type 0} (r : Result T Refusal) (P : T → Type 0) (Q : Refusal → Type 0) → MatchResult r P Q → ((f : Refusal) → Q f → ⊥) → IsOk r
+pub answered : {T E : Type 0} (r : Result T E) (P : T → Type 0) (Q : E → Type 0) → MatchResult r P Q → ((e : E) → Q e → ⊥) → IsOk r
 answered (Ok x) P Q h never = refl
-answered (Err f) P Q h never = absurd (never f h)
+answered (Err e) P Q h never = absurd (never e h)
 
 -- every ladder has room in 160 steps
 pub ladder-fits : (p e : ℕ) → Listed p e → (ys : List ℕ) (f : Refusal) → NoPlan p e ys 160 Ladder f → ⊥

@@ -1,7 +1,9 @@
 // Numbers and keys read from the front of a text. Each reader answers what it read and the rest of the text.
 ghost use Rattle.std.specs.Prelude.{◌≡◌, ℕ, ◌≤◌, List, ◌++◌, length, MatchOption, ◌≢◌};
-ghost use Rattle.std.specs.Str.Parse.{AllDigits, digits_value as written};
+ghost use Rattle.std.specs.Str.Parse.{AllDigits};
 ghost use Rattle.job.specs.Reading.{Ends, LineThen, NoLine, NoNumber, NumberThen};
+
+use std::str;
 
 // The most digits of a number.
 const DIGITS: usize = 5;
@@ -16,32 +18,19 @@ fn split_digits(text: &[u8]) -> (&[u8], &[u8])
     text.split_at(end.unwrap_or(text.len()))
 }
 
-// The number that a few digits write.
-fn value_of(digits: &[u8]) -> u32
-    requires few { length digits.now ≤ 5 }
-    requires all { AllDigits 10 digits.now }
-    ensures { result ≡ written 10 digits.now }
-{
-    let mut value = 0;
-    for digit in digits {
-        value = value * 10 + u32::from(*digit - b'0');
-    }
-    value
-}
-
 // The number at the front of the text: 0, or 1 to 5 digits of which the first is not 0. None where there is none, or where more digits follow.
 pub(crate) fn number(text: &[u8]) -> Option<(u32, &[u8])>
     ensures { MatchOption result (NoNumber text.now) (λ r. NumberThen text.now r.0 r.1.now) }
 {
     let (digits, rest) = split_digits(text);
-    let first = digits.first()?;
     if digits.len() > DIGITS {
         return None;
     }
-    if digits.len() > 1 && *first == b'0' {
+    if digits.len() > 1 && digits[0] == b'0' {
         return None;
     }
-    Some((value_of(digits), rest))
+    let value = str::from_utf8(digits).unwrap().parse().ok()?;
+    Some((value, rest))
 }
 
 // What stands behind these bytes at the front of the text.

@@ -1,31 +1,42 @@
-use Rattle.std.proofs.Common.{◌≡◌, ◌∙◌, ℕ, ◌<◌, ◌≤◌, length, get_or, sym, subst, arith}
-use Rattle.job.specs.Reading.{NumberThen}
-use Rattle.job.proofs.Cuts.{first_digit, no_digits, many_digits, leading_zero, number_here}
+use Rattle.std.proofs.Common.{◌≡◌, ℕ, ◌≤◌, List, length, get_or, ap, subst, arith, MatchResult}
+use Rattle.std.proofs.lemmas.Fmt.{IsAscii-from_digits}
+use Rattle.std.proofs.lemmas.Result.{MatchResult-at_ok}
+use Rattle.std.proofs.lemmas.Str.Parse.{parse_digits}
+use Rattle.std.proofs.lemmas.Str.{IsUtf8-from_ascii}
+use Rattle.std.specs.Str.Parse.{ParsesUnsigned}
+use Rattle.job.proofs.Cuts.{leading_zero, many_digits, none_read, number_read, own}
+use Rattle.job.proofs.Making.{answered}
 use Rattle.job.proofs.numbers.number.Goals as goal
-use Rattle.job.proofs.numbers.number.Goals.{else-digits-gt1-via-then-digits-gt1+else-first-eq48, else-digits-gt1-via-else-digits-gt1}
-
-pub returns-in_err-first : goal.returns-in_err-first
-returns-in_err-first c =
-    let run = c.split_digits.ensures in
-    let none = no_digits c.args.text.now c.split_digits.result.0.now c.split_digits.result.1.now run.text run.digits run.ends (omega (arith, c.in_err-first.ensures.item)) in
-    simp c.from_residual.ensures none
+use Rattle.job.proofs.numbers.number.Goals.{else-digits-gt1-via-then-digits-gt1+else-digits-eq48, else-digits-gt1-via-else-digits-gt1}
 
 pub returns-then-digits-gt-DIGITS : goal.returns-then-digits-gt-DIGITS
 returns-then-digits-gt-DIGITS c =
     let run = c.split_digits.ensures in
     many_digits c.args.text.now c.split_digits.result.0.now c.split_digits.result.1.now run.text run.digits run.ends c.if-digits-gt-DIGITS.true
 
-pub returns-then-first-eq48 : goal.returns-then-first-eq48
-returns-then-first-eq48 c =
+pub returns-then-digits-eq48 : goal.returns-then-digits-eq48
+returns-then-digits-eq48 c =
     let run = c.split_digits.ensures in
-    leading_zero c.args.text.now c.split_digits.result.0.now c.split_digits.result.1.now run.text run.digits run.ends (first_digit c.split_digits.result.0.now c.in_ok-first.first.now (omega arith) (omega (arith, c.in_ok-first.ensures.item)) ∙ c.if-first-eq48.true) c.if-digits-gt1.true
+    leading_zero c.args.text.now c.split_digits.result.0.now c.split_digits.result.1.now run.text run.digits run.ends c.if-digits-eq48.true c.if-digits-gt1.true
+
+pub unwrap-requires : goal.unwrap-requires
+unwrap-requires c =
+    let ds = c.split_digits.result.0.now in
+    answered c.from_utf8.result _ _ c.from_utf8.ensures.cases (λ e h. h.0 (IsUtf8-from_ascii ds (IsAscii-from_digits ds c.split_digits.ensures.digits)))
+
+pub returns-in_err-value : goal.returns-in_err-value
+returns-in_err-value c =
+    let ds = c.split_digits.result.0.now in
+    let run = c.split_digits.ensures in
+    let text = MatchResult-at_ok _ _ c.unwrap.result c.unwrap.ensures c.from_utf8.ensures.cases in
+    let read = parse_digits own 32 ds c.parse.result (subst (λ (xs : List ℕ). ParsesUnsigned 32 10 xs c.parse.result) text.0 c.parse.ensures.value.0) run.digits in
+    simp c.from_residual.ensures (none_read c.args.text.now ds c.split_digits.result.1.now run.text run.digits run.ends c.parse.result read c.in_err-value.ensures.value c.if-digits-gt-DIGITS.false)
 
 pub returns : goal.returns
 returns c =
-    let text = c.args.text.now in
     let ds = c.split_digits.result.0.now in
-    let rest = c.split_digits.result.1.now in
     let run = c.split_digits.ensures in
-    let some : 0 < length ds = omega (arith, c.in_ok-first.ensures.item) in
-    let first : get_or ds 0 0 ≡ 48 → length ds ≤ 1 = λ z. elim c.else-digits-gt1.branch [ else-digits-gt1-via-then-digits-gt1+else-first-eq48 w ↦ omega (arith, first_digit ds c.in_ok-first.first.now some (omega (arith, c.in_ok-first.ensures.item))) | else-digits-gt1-via-else-digits-gt1 w ↦ omega arith ] in
-    subst (λ (v : ℕ). NumberThen text v rest) (sym c.value_of.ensures) (number_here text ds rest run.text run.digits run.ends some c.if-digits-gt-DIGITS.false first)
+    let text = MatchResult-at_ok _ _ c.unwrap.result c.unwrap.ensures c.from_utf8.ensures.cases in
+    let read = parse_digits own 32 ds c.parse.result (subst (λ (xs : List ℕ). ParsesUnsigned 32 10 xs c.parse.result) text.0 c.parse.ensures.value.0) run.digits in
+    let first : get_or ds 0 0 ≡ 48 → length ds ≤ 1 = λ z. elim c.else-digits-gt1.branch [ else-digits-gt1-via-then-digits-gt1+else-digits-eq48 w ↦ omega arith | else-digits-gt1-via-else-digits-gt1 w ↦ omega arith ] in
+    number_read c.args.text.now ds c.split_digits.result.1.now run.text run.digits run.ends c.parse.result c.in_ok-value.value read c.in_ok-value.ensures.value c.if-digits-gt-DIGITS.false first
