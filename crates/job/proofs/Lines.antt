@@ -1,11 +1,11 @@
 -- What a reader of lines answers, and what it refuses. Rests on the grammar of jobs.
-use Rattle.std.proofs.Common.{◌≡◌, ℕ, zero, suc, false, ◌==◌, ◌<◌, ◌≤◌, List, [], ◌∷◌, ◌++◌, length, Ok, Err, Some, None, codes, Option, sym, refl, ap, ◌∙◌, subst, arith, MatchOption}
+use Rattle.std.proofs.Common.{◌≡◌, ℕ, zero, suc, false, ◌==◌, ◌<◌, ◌≤◌, List, [], ◌∷◌, ◌++◌, length, Ok, Err, Some, None, codes, Option, sym, ap, ◌∙◌, subst, arith, MatchOption}
 use Rattle.std.proofs.lemmas.List.{append_cancel_left}
 use Rattle.std.specs.Option.{ok_or}
 use Rattle.modulus.specs.declared.refusal.Refusal.{Refusal}
 use Rattle.modulus.specs.declared.refusal.Refusal.TheVariants.{BadLine}
 use Rattle.job.specs.Reading.{LineThen, ListThen, NoLine, NoListLine, NoValues, ValuesThen}
-use Rattle.job.specs.Text.{IsBadLine, exponent_line, more_bytes, no_exponent, no_values, prime_line, values_line}
+use Rattle.job.specs.Text.{IsBadLine, exponent_line, more_bytes, no_exponent, no_values, prime_line}
 use Rattle.job.proofs.Grammar.{has_more, lacks_exponent, lacks_values, list_parts}
 
 -- what `ok_or` lets through, and what it refuses

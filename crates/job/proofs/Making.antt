@@ -1,5 +1,5 @@
 -- The figures of a fit and the page of a job: no call that writes the figures is refused, and what they write makes the report. Assumes nothing.
-use Rattle.std.proofs.Common.{◌≡◌, ℕ, ◌^◌, ◌<◌, ◌≤◌, min, List, [], ◌++◌, length, take, Ok, Err, Option, Result, sym, refl, ap, ◌∙◌, subst, arith, MatchResult}
+use Rattle.std.proofs.Common.{◌≡◌, ℕ, ◌^◌, min, List, [], ◌++◌, length, take, Ok, Err, Option, Result, sym, refl, ap, ◌∙◌, subst, arith, MatchResult}
 use Rattle.std.proofs.lemmas.List.{append-nil, drop_all, take_all}
 use Rattle.std.specs.List.{refill}
 use Rattle.std.specs.Result.{IsOk}

@@ -34,8 +34,8 @@ returns-in-Err-clause-judged c =
     let no : NoOffer m (stands f) (get_or values i 0) c.in-Err.refusal =
     subst (λ (n : Modulus). NoOffer (power_of n) (stands f) (get_or values i 0) c.in-Err.refusal) c.loop-i.invariant.0 got.cases.0 in
     c.loop-i.invariant.1 (stands c.offer.new.self) (Some c.in-Err.refusal)
-        (subst (λ (g : Fit). Judged m (stands f) (drop i values) (stands g) (Some c.in-Err.refusal)) (sym got.cases.1)
-        (judged-stop m (stands f) values i 0 c.in-Err.refusal c.loop-i-test.true no))
+    (subst (λ (g : Fit). Judged m (stands f) (drop i values) (stands g) (Some c.in-Err.refusal)) (sym got.cases.1)
+    (judged-stop m (stands f) values i 0 c.in-Err.refusal c.loop-i-test.true no))
 
 pub returns-clause-judged : goal.returns-clause-judged
 returns-clause-judged c =

@@ -1,4 +1,4 @@
-use Rattle.std.proofs.Common.{◌≡◌, ℕ, ◌<◌, List, ◌∷◌, ◌++◌, length, sym, subst, ap, arith}
+use Rattle.std.proofs.Common.{◌≡◌, ℕ, List, ◌∷◌, ◌++◌, length, sym, subst, ap, arith}
 use Rattle.job.specs.Reading.{ValuesThen}
 use Rattle.job.specs.Text.{AllShort}
 use Rattle.job.proofs.Cuts.{number_takes}

@@ -1,4 +1,4 @@
-use Rattle.std.proofs.Common.{refl, arith, ◌∙◌}
+use Rattle.std.proofs.Common.{refl, ◌∙◌}
 use Rattle.std.proofs.lemmas.Result.{err_from_is_err_and}
 use Rattle.job.specs.Text.{no_prime, too_long}
 use Rattle.job.proofs.Lines.{found, missing, some_left, second_bad, third_bad, fourth_bad}
