@@ -5,7 +5,8 @@ ghost use Rattle.job.specs.Report.{OneReport, Reports};
 ghost use Rattle.job.specs.Text.{OneBadLine, OneJob, PlainNumbers};
 
 use crate::figures::figures_of_job;
-use crate::page::{Figures, PAGE, put_page};
+use crate::page::{Figures, PAGE};
+use crate::piece::Piece;
 use crate::read::read;
 use modulus::refusal::{Refusal, check_room};
 
@@ -22,7 +23,7 @@ fn write_out(text: &mut [u8], page: &Result<Figures, Refusal>) -> Result<usize, 
     ensures { MatchResult result (λ n. (n ≤ length text.old) × (take n text.new ≡ page_text page.now) × (drop n text.new ≡ drop n text.old)) (λ f. (length text.old < length (page_text page.now)) × (f ≡ Refusal.ShortBuffer (length (page_text page.now))) × (text.new ≡ text.old)) }
 {
     let mut bytes = [0; PAGE];
-    let width = put_page(&mut bytes, page);
+    let width = page.put(&mut bytes);
     check_room(text.len(), width)?;
     text[..width].copy_from_slice(&bytes[..width]);
     Ok(width)

@@ -33,7 +33,7 @@ pub(crate) fn number(text: &[u8]) -> Option<(u32, &[u8])>
     Some((value, rest))
 }
 
-// What stands behind these bytes at the front of the text.
+// What stands behind these bytes at the front of the text: what `strip_prefix` answers, said by equations.
 pub(crate) fn behind<'a>(text: &'a [u8], front: &[u8]) -> Option<&'a [u8]>
     ensures { MatchOption result ((rest : List ℕ) → text.now ≢ front.now ++ rest) (λ rest. text.now ≡ front.now ++ rest.now) }
 {

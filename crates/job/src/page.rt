@@ -1,5 +1,4 @@
 // What a report says, and the lines that say it.
-ghost use Rattle.std.specs.Prelude.{◌≡◌, ◌≤◌, ◌++◌, length, drop};
 ghost use Rattle.job.specs.Forms.{figures_text, page_text};
 ghost use Rattle.job.specs.Report.{last_lines, refusal_lines};
 
@@ -8,8 +7,8 @@ use arrayvec::ArrayVec;
 use modulus::listed::PLACES;
 use modulus::refusal::Refusal;
 
-// The most bytes of a report, rounded up.
-pub(crate) const PAGE: usize = 1024;
+// The most bytes of a page.
+pub(crate) const PAGE: usize = 744;
 
 // The figures of the values that stand: how many they are, the coefficients of the reported polynomial and the same in powers of X,
 // the multiplications of the ladder, and the refusal of the first value that does not stand.
@@ -68,15 +67,16 @@ impl Piece for &Figures {
     }
 }
 
-// The lines of a report, which is a refusal alone or figures.
-pub(crate) fn put_page(text: &mut [u8], page: &Result<Figures, Refusal>) -> usize
-    requires { 1024 ≤ length text.old }
-    ensures few { result ≤ 1024 }
-    ensures count { result ≡ length (page_text page.now) }
-    ensures text { text.new ≡ page_text page.now ++ drop result text.old }
-{
-    match page {
-        Ok(figures) => figures.put(text),
-        Err(refusal) => refusal.put(text),
+// The lines of a page, which is figures or a refusal alone.
+impl Piece for &Result<Figures, Refusal> {
+    ghost bytes = { λ page. page_text page.now };
+
+    ghost most = { 744 };
+
+    fn put(self, text: &mut [u8]) -> usize {
+        match self {
+            Ok(figures) => figures.put(text),
+            Err(refusal) => refusal.put(text),
+        }
     }
 }
