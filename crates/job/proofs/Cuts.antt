@@ -8,7 +8,7 @@ use Rattle.std.specs.Str.Parse.{AllDigits, digits_value as value}
 use Rattle.std.specs.Char.{digit_value}
 use Rattle.std.specs.Int.{IsInRange}
 use Rattle.std.specs.Result.{OkIff, result_ok}
-use Rattle.job.specs.Reading.{Ends, LineThen, NoLine, NoNumber, NumberThen}
+use Rattle.job.specs.Reading.{Ends, NoLine, NoNumber, NumberThen}
 use Rattle.job.specs.Text.{Short, number_line}
 
 pub own : IsNumeralModel (AllDigits 10) (value 10)
@@ -87,29 +87,17 @@ number_takes text n rest h = omega (arith, ap length h.is, length-append (decima
 pub line_parts : (key : List ℕ) (n : ℕ) (rest : List ℕ) → number_line key n ++ rest ≡ key ++ (decimal n ++ 10 ∷ rest)
 line_parts key n rest = simp append_assoc
 
--- the byte 10 ends a number, and so does a comma
+-- the byte 10 ends a number
 pub ends-line : (rest : List ℕ) → Ends (10 ∷ rest)
 ends-line rest low high = omega arith
 
-pub ends-comma : (rest : List ℕ) → Ends (44 ∷ rest)
-ends-comma rest low high = omega arith
+module _ (text key left : List ℕ) (has : text ≡ key ++ left) where
+  behind_key : (n : ℕ) (rest : List ℕ) → text ≡ number_line key n ++ rest → left ≡ decimal n ++ 10 ∷ rest
+  behind_key n rest e = append_cancel_left key left (decimal n ++ 10 ∷ rest) (sym has ∙ e ∙ line_parts key n rest)
 
-module _ (text key : List ℕ) where
-  pub no_key : ((rest : List ℕ) → text ≡ key ++ rest → ⊥) → NoLine text key
-  no_key none n rest short e = none (decimal n ++ 10 ∷ rest) (e ∙ line_parts key n rest)
+  pub no_line : NoNumber left → NoLine text key
+  no_line none n rest short e = none n (10 ∷ rest) short (ends-line rest) (behind_key n rest e)
 
-  module _ (left : List ℕ) (has : text ≡ key ++ left) where
-    behind_key : (n : ℕ) (rest : List ℕ) → text ≡ number_line key n ++ rest → left ≡ decimal n ++ 10 ∷ rest
-    behind_key n rest e = append_cancel_left key left (decimal n ++ 10 ∷ rest) (sym has ∙ e ∙ line_parts key n rest)
-
-    pub no_line : NoNumber left → NoLine text key
-    no_line none n rest short e = none n (10 ∷ rest) short (ends-line rest) (behind_key n rest e)
-
-    module _ (value : ℕ) (end : List ℕ) (found : NumberThen left value end) where
-      -- behind the number the line has to end
-      pub unended : ((rest : List ℕ) → end ≡ 10 ∷ rest → ⊥) → NoLine text key
-      unended other n rest short e = other rest (cut_number value n end (10 ∷ rest) found.short short found.ends (ends-line rest) (sym found.is ∙ behind_key n rest e)).1
-
-      pub line_here : (rest : List ℕ) → end ≡ 10 ∷ rest → LineThen text key value rest
-      line_here rest ended =
-          record { short = found.short; is = has ∙ ap (λ (xs : List ℕ). key ++ xs) (found.is ∙ ap (λ (xs : List ℕ). decimal value ++ xs) ended) ∙ sym (line_parts key value rest) }
+  -- behind the number the line has to end
+  pub unended : (value : ℕ) (end : List ℕ) → NumberThen left value end → ((rest : List ℕ) → end ≡ 10 ∷ rest → ⊥) → NoLine text key
+  unended value end found other n rest short e = other rest (cut_number value n end (10 ∷ rest) found.short short found.ends (ends-line rest) (sym found.is ∙ behind_key n rest e)).1
