@@ -5,7 +5,8 @@ use Rattle.std.proofs.lemmas.List.{append_assoc, append_cancel_left, append-nil}
 use Rattle.std.proofs.lemmas.Bool.{cases_eq, cases_order}
 use Rattle.job.specs.Reading.{Ends, NoLine, NoListLine}
 use Rattle.job.specs.Text.{number_line, joined, list_line, Short, AllShort, prime_line, exponent_line, values_line, Says, FirstLine, TwoLines, ThreeLines, IsBadLine, too_long, no_prime, no_exponent, no_values, more_bytes, OneJob, OneBadLine}
-use Rattle.job.proofs.Cuts.{own, cut_digits, cut_number, line_parts, ends-line, ends-comma}
+use Rattle.job.proofs.Cuts.{own, cut_digits, cut_number, line_parts, ends-line}
+use Rattle.job.proofs.Joined.{behind, behind_ends, joined-first}
 
 -- ---- a line and what follows it
 pub line_cut : (key : List ℕ) (m n : ℕ) (xs ys : List ℕ) → Short m → Short n → number_line key m ++ xs ≡ number_line key n ++ ys → (m ≡ n) × (xs ≡ ys)
@@ -16,19 +17,6 @@ line_cut key m n xs ys short short' e =
     (cut.0, cc)
 
 -- ---- a list of numbers and what follows it
--- what follows the first number: a comma and a number for each one more, the end of the line, and the rest
-abbrev pub after_first : List ℕ → List ℕ → List ℕ
-after_first [] rest = 10 ∷ rest
-after_first (n ∷ ns) rest = 44 ∷ (decimal n ++ after_first ns rest)
-
-pub joined-after : (n : ℕ) (ns rest : List ℕ) → joined (n ∷ ns) ++ 10 ∷ rest ≡ decimal n ++ after_first ns rest
-joined-after n [] rest = refl
-joined-after n (k ∷ ns) rest = append_assoc (decimal n) (44 ∷ joined (k ∷ ns)) (10 ∷ rest) ∙ ap (λ (xs : List ℕ). decimal n ++ 44 ∷ xs) (joined-after k ns rest)
-
-pub ends-after : (ns rest : List ℕ) → Ends (after_first ns rest)
-ends-after [] rest = ends-line rest
-ends-after (n ∷ ns) rest = ends-comma (decimal n ++ after_first ns rest)
-
 -- the end of the line is no comma, and no number
 pub line_no_comma : (xs ys : List ℕ) → 10 ∷ xs ≡ 44 ∷ ys → ⊥
 line_no_comma xs ys e = let z : ◌≡◌ {A = ℕ} 10 44 = cc in omega arith
@@ -38,24 +26,24 @@ line_no_number n xs rest short ends e =
     let none = cut_digits [] (decimal n) (10 ∷ xs) rest tt (digits_decimal own n (omega arith)) (ends-line xs) ends e in
     omega (arith, ap length none.0, decimal_nonempty n (omega arith))
 
-after-cut : (ms ns xs ys : List ℕ) → AllShort ms → AllShort ns → after_first ms xs ≡ after_first ns ys → (ms ≡ ns) × (xs ≡ ys)
-after-cut [] [] xs ys short short' e = (refl, cc)
-after-cut [] (n ∷ ns) xs ys short short' e = absurd (line_no_comma xs (decimal n ++ after_first ns ys) e)
-after-cut (m ∷ ms) [] xs ys short short' e = absurd (line_no_comma ys (decimal m ++ after_first ms xs) (sym e))
-after-cut (m ∷ ms) (n ∷ ns) xs ys short short' e =
-    let cut = cut_number m n (after_first ms xs) (after_first ns ys) short.0 short'.0 (ends-after ms xs) (ends-after ns ys) (cc) in
-    let more = after-cut ms ns xs ys short.1 short'.1 cut.1 in
+behind-cut : (ms ns xs ys : List ℕ) → AllShort ms → AllShort ns → behind ms xs ≡ behind ns ys → (ms ≡ ns) × (xs ≡ ys)
+behind-cut [] [] xs ys short short' e = (refl, cc)
+behind-cut [] (n ∷ ns) xs ys short short' e = absurd (line_no_comma xs (joined (n ∷ ns) ++ 10 ∷ ys) e)
+behind-cut (m ∷ ms) [] xs ys short short' e = absurd (line_no_comma ys (joined (m ∷ ms) ++ 10 ∷ xs) (sym e))
+behind-cut (m ∷ ms) (n ∷ ns) xs ys short short' e =
+    let inner : joined (m ∷ ms) ++ 10 ∷ xs ≡ joined (n ∷ ns) ++ 10 ∷ ys = cc in
+    let cut = cut_number m n (behind ms xs) (behind ns ys) short.0 short'.0 (behind_ends ms xs) (behind_ends ns ys) (sym (joined-first m ms xs) ∙ inner ∙ joined-first n ns ys) in
+    let more = behind-cut ms ns xs ys short.1 short'.1 cut.1 in
     let first = cut.0 in
     let others = more.0 in
     (cc, more.1)
 
 pub joined-cut : (ms ns xs ys : List ℕ) → AllShort ms → AllShort ns → joined ms ++ 10 ∷ xs ≡ joined ns ++ 10 ∷ ys → (ms ≡ ns) × (xs ≡ ys)
 joined-cut [] [] xs ys short short' e = (refl, cc)
-joined-cut [] (n ∷ ns) xs ys short short' e = absurd (line_no_number n xs (after_first ns ys) short'.0 (ends-after ns ys) (e ∙ joined-after n ns ys))
-joined-cut (m ∷ ms) [] xs ys short short' e = absurd (line_no_number m ys (after_first ms xs) short.0 (ends-after ms xs) (sym e ∙ joined-after m ms xs))
+joined-cut [] (n ∷ ns) xs ys short short' e = absurd (line_no_number n xs (behind ns ys) short'.0 (behind_ends ns ys) (e ∙ joined-first n ns ys))
+joined-cut (m ∷ ms) [] xs ys short short' e = absurd (line_no_number m ys (behind ms xs) short.0 (behind_ends ms xs) (sym e ∙ joined-first m ms xs))
 joined-cut (m ∷ ms) (n ∷ ns) xs ys short short' e =
-    let e' = sym (joined-after m ms xs) ∙ e ∙ joined-after n ns ys in
-    after-cut (m ∷ ms) (n ∷ ns) xs ys short short' (ap (λ (zs : List ℕ). 44 ∷ zs) e')
+    behind-cut (m ∷ ms) (n ∷ ns) xs ys short short' (ap (λ (zs : List ℕ). 44 ∷ zs) e)
 
 pub list_parts : (key ns rest : List ℕ) → list_line key ns ++ rest ≡ key ++ (joined ns ++ 10 ∷ rest)
 list_parts key ns rest = append_assoc key (joined ns ++ 10 ∷ []) rest ∙ ap (λ (xs : List ℕ). key ++ xs) (append_assoc (joined ns) (10 ∷ []) rest)

@@ -2,6 +2,7 @@ pub mod Cuts
 pub mod Grammar
 pub mod Joined
 pub mod Judging
+pub mod Lines
 pub mod Making
 pub mod Reporting
-pub mod Texts
+pub mod Written

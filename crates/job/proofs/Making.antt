@@ -1,6 +1,8 @@
 -- The figures of a fit and the page of a job: no call that writes the figures is refused, and what they write makes the report. Assumes nothing.
-use Rattle.std.proofs.Common.{◌≡◌, ℕ, ◌^◌, ◌<◌, ◌≤◌, min, List, [], length, take, Ok, Err, Option, Result, sym, refl, ap, ◌∙◌, subst, arith, MatchResult}
-use Rattle.std.proofs.lemmas.List.{length-take-le}
+use Rattle.std.proofs.Common.{◌≡◌, ℕ, ◌^◌, min, List, [], ◌++◌, length, take, Ok, Err, Option, Result, sym, refl, ap, ◌∙◌, subst, arith, MatchResult}
+use Rattle.std.proofs.lemmas.List.{append-nil, drop_all, take_all}
+use Rattle.std.specs.List.{refill}
+use Rattle.std.specs.Result.{IsOk}
 use Rattle.modulus.specs.Moduli.{Listed}
 use Rattle.modulus.specs.declared.listed.Modulus.{Modulus}
 use Rattle.modulus.specs.declared.refusal.Refusal.{Refusal}
@@ -17,39 +19,43 @@ use Rattle.planner.specs.Plans.{NoPlan, no_room, Planned}
 use Rattle.planner.specs.declared.kind.Kind.TheVariants.{Ladder}
 use Rattle.planner.proofs.Forms.{form-same}
 use Rattle.planner.proofs.Plans.{plan-passes}
-use Rattle.job.specs.Forms.{page_text}
+use Rattle.job.specs.Forms.{figures_text}
 use Rattle.job.specs.Report.{FiguresOf, Judged, Reports, judged, no_modulus, refusal_lines, report_lines}
 use Rattle.job.specs.Text.{Says}
 use Rattle.job.specs.declared.page.Figures.{Figures}
-use Rattle.job.specs.declared.page.Page.TheVariants.{Refused, Judged as PageJudged}
 
 -- ---- no refusal
--- what asks for no more than the buffer has is answered
-pub not_short : (needed room : ℕ) (r : Result ℕ Refusal) (P : ℕ → Type 0) (Q R : Refusal → Type 0) → needed ≤ room
-    → MatchResult r P (λ (f : Refusal). Q f × (room < needed) × R f) → (n : ℕ) × (r ≡ Ok n) × P n
-not_short needed room (Ok n) P Q R fits h = (n, refl, h)
-not_short needed room (Err f) P Q R fits (is, short, same) = absurd (omega arith)
+-- a call is answered where no refusal of it can be
+pub answered : {T E : Type 0} (r : Result T E) (P : T → Type 0) (Q : E → Type 0) → MatchResult r P Q → ((e : E) → Q e → ⊥) → IsOk r
+answered (Ok x) P Q h never = refl
+answered (Err e) P Q h never = absurd (never e h)
 
 -- every ladder has room in 160 steps
 pub ladder-fits : (p e : ℕ) → Listed p e → (ys : List ℕ) (f : Refusal) → NoPlan p e ys 160 Ladder f → ⊥
 ladder-fits p e h ys f (no_room {steps} plan short) = omega (arith, (plan-passes p e h ys Ladder steps plan).0.few)
 
 -- ---- what was written makes the figures
-pub figures_made : (f : Fit) (n multiplications : ℕ) (reduced powers : List ℕ) → n ≡ report_length f → n ≤ length reduced → n ≤ length powers
-    → Reported f.modulus.prime f.modulus.exponent (stands f) (take n reduced) → WrittenPowers f (take n powers)
+-- a vector that lent its elements to be written, cut to the first n of them
+pub written_first : (n : ℕ) (lent written cut : List ℕ) → cut ≡ take n (refill (length lent) lent written) → length written ≡ length lent → cut ≡ take n written
+written_first n lent written cut is same =
+    is
+    ∙ ap (λ (xs : List ℕ). take n (take (length lent) (written ++ xs))) (drop_all (length written) lent (omega arith))
+    ∙ ap (λ (xs : List ℕ). take n xs) (ap (λ (xs : List ℕ). take (length lent) xs) (append-nil written) ∙ take_all (length lent) written (omega arith))
+
+pub figures_made : (f : Fit) (multiplications : ℕ) (reduced powers : List ℕ) → length reduced ≡ report_length f → length powers ≡ report_length f
+    → Reported f.modulus.prime f.modulus.exponent (stands f) reduced → WrittenPowers f powers
     → (ladder : List Step) × Planned f.modulus.prime f.modulus.exponent (stands f) Ladder ladder × (multiplications ≡ multiplications_of ladder)
-    → FiguresOf f.modulus.prime f.modulus.exponent (stands f) (take n reduced) (take n powers) multiplications
-figures_made f n multiplications reduced powers is room room' report written (ladder, planned, multiply) =
+    → FiguresOf f.modulus.prime f.modulus.exponent (stands f) reduced powers multiplications
+figures_made f multiplications reduced powers long long' report written (ladder, planned, multiply) =
     let m = f.modulus in
-    let long : length (take n reduced) ≡ n = length-take-le n reduced room in
     record {
       reported = report;
       mu = m.mu;
       least = m.least;
-      long = long ∙ is ∙ ap (λ (k : ℕ). min k m.mu) (sym (length-standing (power_of m) f.coefficients f.count));
-      as_long = length-take-le n powers room' ∙ sym long;
+      long = long ∙ ap (λ (k : ℕ). min k m.mu) (sym (length-standing (power_of m) f.coefficients f.count));
+      as_long = long' ∙ sym long;
       same = λ k. cong_trans (written.is k)
-          (cong_path (power_of m) (form-same written.form_of (take n reduced) (reported-unique m.prime m.exponent (stands f) written.form_of (take n reduced) written.reported report) k));
+          (cong_path (power_of m) (form-same written.form_of reduced (reported-unique m.prime m.exponent (stands f) written.form_of reduced written.reported report) k));
       below = written.below;
       ladder = ladder;
       planned = planned;
@@ -57,17 +63,17 @@ figures_made f n multiplications reduced powers is room room' report written (la
     }
 
 -- ---- the page of a job
-pub off_the_list : (p e : ℕ) (vs : List ℕ) (f : Refusal) → (Listed p e → ⊥) → f ≡ Unlisted → (bytes : List ℕ) → Says bytes p e vs → Reports bytes (page_text (Refused f))
+pub off_the_list : (p e : ℕ) (vs : List ℕ) (f : Refusal) → (Listed p e → ⊥) → f ≡ Unlisted → (bytes : List ℕ) → Says bytes p e vs → Reports bytes (refusal_lines f)
 off_the_list p e vs f off is bytes says = subst (λ (x : Refusal). Reports bytes (refusal_lines x)) (sym is) (no_modulus says off)
 
 -- the fit g was opened with p and e; h is what the offers of the values make of it
 pub page_judged : (p e : ℕ) (g h : Fit) (vs : List ℕ) (r : Option Refusal) (a : Figures) → Listed p e → g.modulus.prime ≡ p → g.modulus.exponent ≡ e → stands g ≡ []
     → h.modulus ≡ g.modulus → Judged (power_of g.modulus) (stands g) vs (stands h) r → a.standing ≡ length (stands h) → a.refusal ≡ r
-    → FiguresOf h.modulus.prime h.modulus.exponent (stands h) (take a.count a.reduced) (take a.count a.powers) a.multiplications
-    → (bytes : List ℕ) → Says bytes p e vs → Reports bytes (page_text (PageJudged a))
+    → FiguresOf h.modulus.prime h.modulus.exponent (stands h) a.reduced.items a.powers.items a.multiplications
+    → (bytes : List ℕ) → Says bytes p e vs → Reports bytes (figures_text a)
 page_judged p e g h vs r a listed prime exponent empty same offers standing refusal made bytes says =
-    let reduced : List ℕ = take a.count a.reduced in
-    let powers : List ℕ = take a.count a.powers in
+    let reduced : List ℕ = a.reduced.items in
+    let powers : List ℕ = a.powers.items in
     let with-list : Judged (p ^ e) [] vs (stands h) r =
     subst (λ (q : ℕ). Judged (q ^ e) [] vs (stands h) r) prime
     (subst (λ (k : ℕ). Judged (g.modulus.prime ^ k) [] vs (stands h) r) exponent

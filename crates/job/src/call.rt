@@ -1,35 +1,32 @@
 // The call that writes the report on a job.
 ghost use Rattle.std.specs.Prelude.{◌≡◌, ℕ, ◌<◌, ◌≤◌, List, length, take, drop, MatchResult};
-ghost use Rattle.job.specs.Forms.{FitsPage, page_text};
+ghost use Rattle.job.specs.Forms.{page_text};
 ghost use Rattle.job.specs.Report.{OneReport, Reports};
 ghost use Rattle.job.specs.Text.{OneBadLine, OneJob, PlainNumbers};
 
-use crate::figures::page_of_job;
-use crate::page::Page;
+use crate::figures::figures_of_job;
+use crate::page::{Figures, PAGE};
+use crate::piece::Piece;
 use crate::read::read;
-use crate::write::{page_width, put_page};
 use modulus::refusal::{Refusal, check_room};
 
-// What the report on these bytes says.
-fn page_of(bytes: &[u8]) -> Page
-    ensures reports { Reports bytes.now (page_text result) }
-    ensures fits { FitsPage result }
+// What the report on these bytes says: figures, or a refusal alone.
+fn page_of(bytes: &[u8]) -> Result<Figures, Refusal>
+    ensures { Reports bytes.now (page_text result) }
 {
-    match read(bytes) {
-        Ok(job) => page_of_job(&job),
-        Err(line) => Page::Refused {
-            refusal: Refusal::BadLine { line },
-        },
-    }
+    let job = read(bytes)?;
+    figures_of_job(&job)
 }
 
 // Writes the page to the front of the buffer, if there is room for all of it.
-fn write_out(text: &mut [u8], page: &Page) -> Result<usize, Refusal>
-    requires { FitsPage page.now }
+fn write_out(text: &mut [u8], page: &Result<Figures, Refusal>) -> Result<usize, Refusal>
     ensures { MatchResult result (λ n. (n ≤ length text.old) × (take n text.new ≡ page_text page.now) × (drop n text.new ≡ drop n text.old)) (λ f. (length text.old < length (page_text page.now)) × (f ≡ Refusal.ShortBuffer (length (page_text page.now))) × (text.new ≡ text.old)) }
 {
-    check_room(text.len(), page_width(page))?;
-    Ok(put_page(text, page))
+    let mut bytes = [0; PAGE];
+    let width = page.put(&mut bytes);
+    check_room(text.len(), width)?;
+    text[..width].copy_from_slice(&bytes[..width]);
+    Ok(width)
 }
 
 // The report on the bytes, written to the front of the buffer, and the laws of texts and reports.

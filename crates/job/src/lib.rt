@@ -3,9 +3,8 @@
 
 pub mod call;
 mod figures;
-mod lines;
 mod numbers;
 mod page;
 mod parsed;
+mod piece;
 mod read;
-mod write;

@@ -17,35 +17,13 @@ mod tests {
     // The most bytes of a job.
     const LONGEST: usize = 4096;
 
-    // Whether every byte is still the one that the buffer was filled with.
-    fn is_filled(bytes: &[u8]) -> bool {
-        for b in bytes {
-            if *b != FILL {
-                return false;
-            }
-        }
-        true
-    }
-
-    // Whether the two are the same bytes.
-    fn is_same(one: &[u8], other: &[u8]) -> bool {
-        if one.len() != other.len() {
-            return false;
-        }
-        for (a, b) in one.iter().zip(other.iter()) {
-            if *a != *b {
-                return false;
-            }
-        }
-        true
-    }
-
     // The report on the job is this text, what lies past it stays, and a buffer one byte too short is refused and stays.
     fn check_report(rt: &impl Abort, job: &[u8], expected: &[u8]) -> Result<(), Fail> {
         let mut text = [FILL; TEXT];
         let written = report(job, &mut text)?;
-        assert!(rt; is_same(&text[0..written], expected));
-        assert!(rt; is_filled(&text[written..TEXT]));
+        let (front, rest) = text.split_at(written);
+        assert_eq!(rt; front, expected);
+        assert!(rt; rest.iter().all(|byte| *byte == FILL));
         check_short(rt, job, written)
     }
 
@@ -54,14 +32,10 @@ mod tests {
         let mut buffer = [FILL; TEXT];
         assert!(rt; needed >= 1 && needed <= TEXT);
         let short = &mut buffer[0..needed - 1];
-        match report(job, short) {
-            Ok(_) => Err(Fail::new("written")),
-            Err(refusal) => {
-                assert_eq!(rt; (refusal.number(), refusal.place()), (6, needed));
-                assert!(rt; is_filled(short));
-                Ok(())
-            }
-        }
+        let refused = report(job, short).map_err(|refusal| (refusal.number(), refusal.place()));
+        assert_eq!(rt; refused, Err((6, needed)));
+        assert!(rt; short.iter().all(|byte| *byte == FILL));
+        Ok(())
     }
 
     #[test]
@@ -202,8 +176,8 @@ mod tests {
     fn longest() -> [u8; LONGEST] {
         let mut job = [b','; LONGEST];
         job[0..27].copy_from_slice(b"prime=2\nexponent=16\nvalues=");
-        for i in 0..2033usize {
-            job[27 + 2 * i] = b'0';
+        for zero in job[27..4093].iter_mut().step_by(2) {
+            *zero = b'0';
         }
         job[4093] = b'1';
         job[4094] = b'0';

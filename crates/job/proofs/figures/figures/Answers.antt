@@ -1,31 +1,28 @@
-use Rattle.std.proofs.Common.{◌≡◌, ℕ, ◌≤◌, length, take, Result, sym, refl, ap, ◌∙◌, subst, arith, rules}
-use Rattle.std.specs.Result.{result_unwrap_or}
-use Rattle.modulus.specs.declared.refusal.Refusal.{Refusal}
+use Rattle.std.proofs.Common.{◌≡◌, List, ℕ, length, take, sym, ap, ◌∙◌, subst, arith}
+use Rattle.std.proofs.lemmas.Result.{MatchResult-at_ok}
+use Rattle.std.proofs.lemmas.List.{length-take-le}
 use Rattle.poly.specs.Reduced.{Reported}
 use Rattle.poly.proofs.Standing.{length-standing}
-use Rattle.fit.specs.Standing.{WrittenPowers, power_of, report_length, stands}
-use Rattle.job.proofs.Making.{figures_made, not_short}
+use Rattle.fit.specs.Standing.{WrittenPowers, power_of, stands}
+use Rattle.job.proofs.Making.{figures_made, written_first}
 use Rattle.job.proofs.figures.figures.Goals as goal
 
-pub returns : goal.returns
-returns c =
+pub returns-clause-standing : goal.returns-clause-standing
+returns-clause-standing c = let f = c.args.fit.now in c.count.ensures ∙ sym (length-standing (power_of f.modulus) f.coefficients f.count)
+
+pub returns-clause-figures : goal.returns-clause-figures
+returns-clause-figures c =
     let f = c.args.fit.now in
     let m = f.modulus in
-    let few : report_length f ≤ 52 = omega (arith, m.few) in
-    let n = c.unwrap_or-count.result in
-    let report = not_short (report_length f) 52 c.report.result _ _ _ few c.report.ensures in
-    let written = not_short (report_length f) 52 c.powers.result _ _ _ few c.powers.ensures in
-    let answered : n ≡ report.0 = c.unwrap_or-count.ensures ∙ ap (λ (r : Result ℕ Refusal). result_unwrap_or r 0) report.1 in
-    let is : n ≡ report_length f = answered ∙ report.2.0 in
-    let also : n ≡ written.0 = is ∙ sym written.2.0 in
-    let room : length c.report.new.out ≡ 52 = search rules in
-    let room' : length c.powers.new.out ≡ 52 = search rules in
-    record {
-      standing = c.count.ensures ∙ sym (length-standing (power_of m) f.coefficients f.count);
-      refusal = refl;
-      few = omega (arith, is, few);
-      figures = figures_made f n c.ladder_multiplications.result c.report.new.out c.powers.new.out is (omega (arith, is, few, room)) (omega (arith, is, few, room'))
-          (subst (λ (k : ℕ). Reported m.prime m.exponent (stands f) (take k c.report.new.out)) (sym answered) report.2.2)
-          (subst (λ (k : ℕ). WrittenPowers f (take k c.powers.new.out)) (sym also) written.2.2)
-          c.ladder_multiplications.ensures;
-    }
+    let n = c.unwrap-count.result in
+    let k = c.unwrap-count-2.result in
+    let report = MatchResult-at_ok _ _ n c.unwrap-count.ensures c.report.ensures in
+    let written = MatchResult-at_ok _ _ k c.unwrap-count-2.ensures c.powers.ensures in
+    let first : c.truncate.new.self.items ≡ take n c.report.new.out = written_first n c.from-reduced.result.items c.report.new.out _ c.truncate.ensures.items (omega (arith, ap length c.deref_mut.ensures.value)) in
+    let second : c.truncate-2.new.self.items ≡ take k c.powers.new.out = written_first k c.from-powers.result.items c.powers.new.out _ c.truncate-2.ensures.items (omega (arith, ap length c.deref_mut-2.ensures.value)) in
+    figures_made f c.ladder_multiplications.result c.truncate.new.self.items c.truncate-2.new.self.items
+    (ap length first ∙ length-take-le n c.report.new.out (omega (arith, report.1)) ∙ report.0)
+    (ap length second ∙ length-take-le k c.powers.new.out (omega (arith, written.1)) ∙ written.0)
+    (subst (λ (xs : List ℕ). Reported m.prime m.exponent (stands f) xs) (sym first) report.2)
+    (subst (λ (xs : List ℕ). WrittenPowers f xs) (sym second) written.2)
+    c.ladder_multiplications.ensures

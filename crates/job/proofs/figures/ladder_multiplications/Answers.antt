@@ -1,8 +1,8 @@
 use Rattle.fit.specs.Standing.{stands}
-use Rattle.job.proofs.Making.{ladder-fits}
+use Rattle.job.proofs.Making.{answered, ladder-fits}
 use Rattle.job.proofs.figures.ladder_multiplications.Goals as goal
 
-pub returns-in-Err : goal.returns-in-Err
-returns-in-Err c =
+pub unwrap-price-requires : goal.unwrap-price-requires
+unwrap-price-requires c =
     let f = c.args.fit.now in
-    absurd (ladder-fits f.modulus.prime f.modulus.exponent f.modulus.listed (stands f) c.in-Err.field-0 c.in-Err.ensures.0)
+    answered c.plan.result _ _ c.plan.ensures (λ r no. ladder-fits f.modulus.prime f.modulus.exponent f.modulus.listed (stands f) r no.0)

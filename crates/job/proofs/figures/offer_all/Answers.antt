@@ -1,4 +1,4 @@
-use Rattle.std.proofs.Common.{get_or, drop, Some, None, sym, refl, ◌∙◌, subst}
+use Rattle.std.proofs.Common.{get_or, drop, Some, None, sym, ◌∙◌, subst}
 use Rattle.fit.specs.Rules.{NoOffer}
 use Rattle.fit.specs.Standing.{power_of, stands}
 use Rattle.fit.specs.declared.table.Fit.{Fit}
@@ -8,9 +8,6 @@ use Rattle.modulus.specs.declared.refusal.Refusal.{Refusal}
 use Rattle.job.specs.Report.{Judged}
 use Rattle.job.proofs.Judging.{judged-next, judged-stop, judged-end}
 use Rattle.job.proofs.figures.offer_all.Goals as goal
-
-pub loop-i-init : goal.loop-i-init
-loop-i-init c = (refl, λ end r h. h)
 
 pub loop-i-preserved : goal.loop-i-preserved
 loop-i-preserved c =
@@ -27,8 +24,8 @@ loop-i-preserved c =
       λ end r h. c.loop-i.invariant.1 end r (judged-next m (stands f) (stands c.offer.new.self) values i 0 c.loop-i-test.true fits got.cases.1 end r h),
     )
 
-pub returns-in-Err : goal.returns-in-Err
-returns-in-Err c =
+pub returns-in-Err-clause-judged : goal.returns-in-Err-clause-judged
+returns-in-Err-clause-judged c =
     let values = c.args.values.now in
     let i = c.loop-i._i in
     let f = c.loop-i.fit in
@@ -36,18 +33,11 @@ returns-in-Err c =
     let got = c.in-Err.ensures in
     let no : NoOffer m (stands f) (get_or values i 0) c.in-Err.refusal =
     subst (λ (n : Modulus). NoOffer (power_of n) (stands f) (get_or values i 0) c.in-Err.refusal) c.loop-i.invariant.0 got.cases.0 in
-    record {
-      modulus = got.modulus ∙ c.loop-i.invariant.0;
-      judged = c.loop-i.invariant.1 (stands c.offer.new.self) (Some c.in-Err.refusal)
-          (subst (λ (g : Fit). Judged m (stands f) (drop i values) (stands g) (Some c.in-Err.refusal)) (sym got.cases.1)
-          (judged-stop m (stands f) values i 0 c.in-Err.refusal c.loop-i-test.true no));
-    }
+    c.loop-i.invariant.1 (stands c.offer.new.self) (Some c.in-Err.refusal)
+    (subst (λ (g : Fit). Judged m (stands f) (drop i values) (stands g) (Some c.in-Err.refusal)) (sym got.cases.1)
+    (judged-stop m (stands f) values i 0 c.in-Err.refusal c.loop-i-test.true no))
 
-pub returns : goal.returns
-returns c =
-    let m = power_of c.args.fit.now.modulus in
+pub returns-clause-judged : goal.returns-clause-judged
+returns-clause-judged c =
     let f = c.loop-i.fit in
-    record {
-      modulus = c.loop-i.invariant.0;
-      judged = c.loop-i.invariant.1 (stands f) None (judged-end m (stands f) c.args.values.now c.loop-i._i c.loop-i-test.false);
-    }
+    c.loop-i.invariant.1 (stands f) None (judged-end (power_of c.args.fit.now.modulus) (stands f) c.args.values.now c.loop-i._i c.loop-i-test.false)

@@ -1,18 +1,14 @@
-use Rattle.std.proofs.Common.{◌≡◌, ◌+◌, ◌-◌, ◌*◌, ◌≤◌, ◌++◌, length, drop}
-use Rattle.job.specs.Forms.{values_of}
+use Rattle.std.proofs.Common.{◌≡◌, ◌+◌, ◌*◌, ◌≤◌, ◌++◌, length}
 use Rattle.job.specs.Text.{AllShort}
 use Rattle.job.proofs.Joined.{commas}
 use Rattle.job.proofs.read.joined_values.Given as goal
 
--- the values so far, each with its comma, stand before this place
-abbrev pub invariant-loop-n : goal.invariant-loop-n
-invariant-loop-n l =
-    (l.start + 2 * l.job.count ≤ l.here)
-    × (l.job.count ≤ 2048)
-    × AllShort (values_of l.job)
-    × (drop l.start l.bytes ≡ commas (values_of l.job) ++ drop l.here l.bytes)
-    × (l.job.prime ≡ l.initial.job.prime)
-    × (l.job.exponent ≡ l.initial.job.exponent)
+-- the values so far, each with its comma, stand before what is left
+abbrev pub invariant-loop-value : goal.invariant-loop-value
+invariant-loop-value l =
+    (2 * length l.values.items + length l.left ≤ length l.text)
+    × AllShort l.values.items
+    × (l.text ≡ commas l.values.items ++ l.left)
 
-abbrev pub decreases-loop-n : goal.decreases-loop-n
-decreases-loop-n l = length l.bytes - l.here
+abbrev pub decreases-loop-value : goal.decreases-loop-value
+decreases-loop-value l = length l.left
