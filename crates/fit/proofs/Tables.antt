@@ -1,7 +1,7 @@
 -- Steps of a table: what the coefficients past μ are, one value more, one value less. Assumes nothing.
-use Rattle.std.proofs.Common.{◌≡◌, ℕ, ◌+◌, ◌-◌, ◌%◌, ◌<◌, ◌≤◌, List, length, get_or, take, set, ℤ, pos, ◌+ℤ◌, ◌-ℤ◌, neg_ℤ, sym, ◌∙◌, arith}
+use Rattle.std.proofs.Common.{◌≡◌, ℕ, ◌+◌, ◌-◌, ◌%◌, ◌<◌, ◌≤◌, List, length, get_or, take, set, ℤ, pos, ◌+ℤ◌, ◌-ℤ◌, neg_ℤ, sym, ap, ◌∙◌, arith}
 use native.Mathlib.Decide.{dec_lt, ℕ_discrete}
-use native.Mathlib.Nat.{mod-mod}
+use native.Mathlib.Nat.{mod-mod, add-mod-mod}
 use Rattle.std.proofs.lemmas.List.{get_or_past, length-set, get_or-set_same, get_or-set_other}
 use Rattle.modulus.specs.Bounds.{w, Mu}
 use Rattle.modulus.specs.Congruence.{Cong}
@@ -19,22 +19,26 @@ past-mu p e k c mu red i le = omega (arith, red i, w-past p e k i mu le)
 pub front_value : (c : List ℕ) (k x : ℕ) → ((i : ℕ) → k ≤ i → get_or c i 0 ≡ 0) → value_at (take k c) x ≡ value_at c x
 front_value c k x clear = value_same (take k c) c x (λ i _. front_same c k clear i)
 
--- d·n! is the rest, y less the value at n, exactly when the two sum to y
+-- n is −s modulo m, where s is a modulo m: d is y + n modulo m exactly when it sums with a to y
 back_ring : (a y : ℤ) → a +ℤ (y -ℤ a) ≡ y
 back_ring a y = omega zlin
 
 less-ring : (a d : ℤ) → d ≡ (a +ℤ d) -ℤ a
 less-ring a d = omega zlin
 
-pub rest_to_sum : (m a y d : ℕ) → 0 < m → d % m ≡ ((y + (m - a % m)) % m) % m → Cong m (pos (a + d)) (pos y)
-rest_to_sum m a y d some h =
-    let rest : Cong m (pos d) (pos y -ℤ pos a) = cong_trans (cong_from_mod m d (y + (m - a % m)) (h ∙ mod-mod (y + (m - a % m)) m)) (cong_less m y a some) in
-    cong_trans (cong_add (cong_refl m (pos a)) rest) (cong_path m (back_ring (pos a) (pos y)))
+less : (m a y s n : ℕ) → 0 < m → s ≡ a % m → n ≡ (m - s % m) % m → Cong m (pos (y + n)) (pos y -ℤ pos a)
+less m a y s n some hs hn =
+    let same : (y + n) % m ≡ (y + (m - a % m)) % m =
+    ap (λ (k : ℕ). (y + k) % m) hn ∙ add-mod-mod y (m - s % m) m ∙ ap (λ (k : ℕ). (y + (m - k)) % m) (ap (λ (k : ℕ). k % m) hs ∙ mod-mod a m) in
+    cong_trans (cong_from_mod m (y + n) (y + (m - a % m)) same) (cong_less m y a some)
 
-pub sum_to_rest : (m a y d : ℕ) → 0 < m → Cong m (pos (a + d)) (pos y) → d % m ≡ ((y + (m - a % m)) % m) % m
-sum_to_rest m a y d some h =
-    let rest : Cong m (pos d) (pos y -ℤ pos a) = cong_trans (cong_path m (less-ring (pos a) (pos d))) (cong_add h (cong_refl m (neg_ℤ (pos a)))) in
-    mod_from_cong (cong_trans rest (cong_sym (cong_less m y a some))) ∙ sym (mod-mod (y + (m - a % m)) m)
+pub rest_to_sum : (m a y d s n : ℕ) → 0 < m → s ≡ a % m → n ≡ (m - s % m) % m → d % m ≡ (y + n) % m → Cong m (pos (a + d)) (pos y)
+rest_to_sum m a y d s n some hs hn h =
+    cong_trans (cong_add (cong_refl m (pos a)) (cong_trans (cong_from_mod m d (y + n) h) (less m a y s n some hs hn))) (cong_path m (back_ring (pos a) (pos y)))
+
+pub sum_to_rest : (m a y d s n : ℕ) → 0 < m → s ≡ a % m → n ≡ (m - s % m) % m → Cong m (pos (a + d)) (pos y) → d % m ≡ (y + n) % m
+sum_to_rest m a y d s n some hs hn h =
+    mod_from_cong (cong_trans (cong_path m (less-ring (pos a) (pos d))) (cong_trans (cong_add h (cong_refl m (neg_ℤ (pos a)))) (cong_sym (less m a y s n some hs hn))))
 
 -- ---- one coefficient written
 pub set_here : (cs : List ℕ) (n c : ℕ) → (length cs ≤ n → c ≡ 0) → get_or (set cs n c) n 0 ≡ c

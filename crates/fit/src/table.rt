@@ -13,6 +13,7 @@ pub mod withdraw;
 
 // A fit: a modulus and a table of standing values, kept as the coefficients of its reduced Newton form.
 // No value is stored: the one in place i is the form's value at i. From place μ on every coefficient is 0.
+// An array, since the count is no length of it: it goes up to p ^ e, and the coefficients past the array are 0.
 #[derive(Drop)]
 pub struct Fit {
     modulus: Modulus,

@@ -5,7 +5,7 @@ ghost use Rattle.modulus.specs.Moduli.{Listed, greatest};
 
 use crate::listed::Modulus;
 use crate::refusal::Refusal;
-use crate::units::{factorial, split};
+use crate::units::split;
 
 // The number of open places, and the digits in base p that the reduced coefficients have in all:
 // there are p ^ digits polynomial functions modulo p ^ e.
@@ -15,40 +15,40 @@ pub struct Counts {
     pub digits: u32,
 }
 
-// max(e − v(i), 0), the number of digits that the coefficient in place i can have.
-// The contract also says that v(i), by which it is defined, is the exponent of p in i!.
-fn digits_at(modulus: &Modulus, i: u32) -> u32
-    ensures is { result ≡ modulus.now.exponent - v modulus.now.prime i }
-    ensures exponent { Exponent modulus.now.prime (factorial_of i) (v modulus.now.prime i) }
-    ensures small { result ≤ greatest modulus.now.prime }
-{
-    if i >= modulus.mu() {
-        return 0;
-    }
-    modulus.exponent() - factorial(modulus, i).exponent
-}
-
-// The digits of all places below k, which is at most μ.
-fn digits_below(modulus: &Modulus, k: u32) -> u32
-    requires { k ≤ modulus.now.mu }
-    ensures { result ≡ open_digits modulus.now.prime modulus.now.exponent k }
-{
-    let mut reached = 0;
-    let mut digits = 0;
-    for i in 0..k {
-        digits += modulus.exponent() - reached;
-        reached += split(modulus.prime(), i + 1).exponent;
-    }
-    digits
-}
-
 impl Modulus {
+    // max(e − v(i), 0), the number of digits that the coefficient in place i can have.
+    // The contract also says that v(i), by which it is defined, is the exponent of p in i!.
+    fn digits_at(&self, i: u32) -> u32
+        ensures is { result ≡ self.now.exponent - v self.now.prime i }
+        ensures exponent { Exponent self.now.prime (factorial_of i) (v self.now.prime i) }
+        ensures small { result ≤ greatest self.now.prime }
+    {
+        if i >= self.mu() {
+            return 0;
+        }
+        self.exponent() - self.factorial(i).exponent
+    }
+
+    // The digits of all places below k, which is at most μ.
+    fn digits_below(&self, k: u32) -> u32
+        requires { k ≤ self.now.mu }
+        ensures { result ≡ open_digits self.now.prime self.now.exponent k }
+    {
+        let mut reached = 0;
+        let mut digits = 0;
+        for i in 0..k {
+            digits += self.exponent() - reached;
+            reached += split(self.prime(), i + 1).exponent;
+        }
+        digits
+    }
+
     // w(i), the bound of place i.
     #[tactic(auto, using(crate::proofs::Bounds::power_fits))]
     pub fn bound(&self, i: u32) -> u32
         ensures { result ≡ w self.now.prime self.now.exponent i }
     {
-        self.prime().pow(digits_at(self, i))
+        self.prime().pow(self.digits_at(i))
     }
 
     // μ and the sum of max(e − v(i), 0) over the places i below it.
@@ -58,7 +58,7 @@ impl Modulus {
         ensures small { result.mu ≤ 52 }
     {
         let mu = self.mu();
-        let digits = digits_below(self, mu);
+        let digits = self.digits_below(mu);
         Counts { mu, digits }
     }
 }

@@ -31,24 +31,6 @@ pub(crate) fn split(p: u32, n: u32) -> PrimePart
     PrimePart { exponent, rest }
 }
 
-// Takes p out of i!, for a place below μ; what is left of i! is given modulo p ^ e.
-pub(crate) fn factorial(modulus: &Modulus, i: u32) -> PrimePart
-    requires { i < modulus.now.mu }
-    ensures exponent { result.exponent ≡ v modulus.now.prime i }
-    ensures below { result.exponent < modulus.now.exponent }
-    ensures rest { result.rest ≡ (factorial_of i / modulus.now.prime ^ v modulus.now.prime i) % modulus.now.value }
-{
-    let m = modulus.value();
-    let mut exponent = 0;
-    let mut rest = 1;
-    for j in 0..i {
-        let part = split(modulus.prime(), j + 1);
-        exponent += part.exponent;
-        rest = rest * (part.rest % m) % m;
-    }
-    PrimePart { exponent, rest }
-}
-
 // The inverse modulo p of what p does not divide: u ^ (p − 2).
 fn inverse_modulo_prime(p: u32, u: u32) -> u32
     requires listed { 1 ≤ greatest p }
@@ -57,42 +39,6 @@ fn inverse_modulo_prime(p: u32, u: u32) -> u32
     ensures small { result < p }
 {
     (u64::from(u % p).pow(p - 2) % u64::from(p)) as u32
-}
-
-// The inverse modulo p ^ e of what p does not divide: each round doubles the number of digits that are right.
-fn inverse(modulus: &Modulus, u: u32) -> u32
-    requires unit { 0 < u % modulus.now.prime }
-    requires small { u < modulus.now.value }
-    ensures one { (u * result) % modulus.now.value ≡ 1 }
-    ensures small { result < modulus.now.value }
-{
-    let m = modulus.value();
-    let mut r = inverse_modulo_prime(modulus.prime(), u);
-    let mut right = 1;
-    while right < modulus.exponent() {
-        r = r * ((2 + modulus.negative(u * r)) % m) % m;
-        right *= 2;
-    }
-    r
-}
-
-// The power of p in a part.
-#[tactic(auto, using(crate::proofs::Bounds::power_fits))]
-fn prime_power(modulus: &Modulus, part: PrimePart) -> u32
-    requires { part.exponent < modulus.now.exponent }
-    ensures { result ≡ modulus.now.prime ^ part.exponent }
-{
-    modulus.prime().pow(part.exponent)
-}
-
-// The inverse modulo p ^ e of what is left in a part.
-fn inverse_of_rest(modulus: &Modulus, part: PrimePart) -> u32
-    requires unit { 0 < part.rest % modulus.now.prime }
-    requires small { part.rest < modulus.now.value }
-    ensures one { (part.rest * result) % modulus.now.value ≡ 1 }
-    ensures small { result < modulus.now.value }
-{
-    inverse(modulus, part.rest)
 }
 
 // A rest that the power of p divides, without that power and times the inverse of the unit; one below m over that power is enough.
@@ -106,40 +52,94 @@ fn quotient(m: u32, shared: u32, rest: u32, inverse: u32) -> u32
     rest / shared * inverse % (m / shared)
 }
 
-// The same from place μ on, where i! is 0 modulo p ^ e.
-fn divide_past(modulus: &Modulus, i: u32, rest: u32) -> Option<u32>
-    requires { modulus.now.mu ≤ i }
-    ensures { Quotient modulus.now i rest result }
-{
-    (rest % modulus.value() == 0).then_some(0)
-}
-
-// The same before place μ: the power of p in i! has to divide the rest, and what is left of i! has an inverse.
-#[tactic(auto, using(crate::proofs::Exponents::power_positive))]
-fn divide_before(modulus: &Modulus, i: u32, rest: u32) -> Option<u32>
-    requires { i < modulus.now.mu }
-    ensures { Quotient modulus.now i rest result }
-{
-    let m = modulus.value();
-    let rest = rest % m;
-    let part = factorial(modulus, i);
-    let shared = prime_power(modulus, part);
-    if rest % shared != 0 {
-        return None;
-    }
-    let inverse = inverse_of_rest(modulus, part);
-    Some(quotient(m, shared, rest, inverse))
-}
-
 impl Modulus {
+    // Takes p out of i!, for a place below μ; what is left of i! is given modulo p ^ e.
+    pub(crate) fn factorial(&self, i: u32) -> PrimePart
+        requires { i < self.now.mu }
+        ensures exponent { result.exponent ≡ v self.now.prime i }
+        ensures below { result.exponent < self.now.exponent }
+        ensures rest { result.rest ≡ (factorial_of i / self.now.prime ^ v self.now.prime i) % self.now.value }
+    {
+        let m = self.value();
+        let mut exponent = 0;
+        let mut rest = 1;
+        for j in 0..i {
+            let part = split(self.prime(), j + 1);
+            exponent += part.exponent;
+            rest = rest * (part.rest % m) % m;
+        }
+        PrimePart { exponent, rest }
+    }
+
+    // The inverse modulo p ^ e of what p does not divide: each round doubles the number of digits that are right.
+    fn inverse(&self, u: u32) -> u32
+        requires unit { 0 < u % self.now.prime }
+        requires small { u < self.now.value }
+        ensures one { (u * result) % self.now.value ≡ 1 }
+        ensures small { result < self.now.value }
+    {
+        let m = self.value();
+        let mut r = inverse_modulo_prime(self.prime(), u);
+        let mut right = 1;
+        while right < self.exponent() {
+            r = r * ((2 + self.negative(u * r)) % m) % m;
+            right *= 2;
+        }
+        r
+    }
+
+    // The power of p in a part.
+    #[tactic(auto, using(crate::proofs::Bounds::power_fits))]
+    fn prime_power(&self, part: PrimePart) -> u32
+        requires { part.exponent < self.now.exponent }
+        ensures { result ≡ self.now.prime ^ part.exponent }
+    {
+        self.prime().pow(part.exponent)
+    }
+
+    // The inverse modulo p ^ e of what is left in a part.
+    fn inverse_of_rest(&self, part: PrimePart) -> u32
+        requires unit { 0 < part.rest % self.now.prime }
+        requires small { part.rest < self.now.value }
+        ensures one { (part.rest * result) % self.now.value ≡ 1 }
+        ensures small { result < self.now.value }
+    {
+        self.inverse(part.rest)
+    }
+
+    // The quotient from place μ on, where i! is 0 modulo p ^ e.
+    fn divide_past(&self, i: u32, rest: u32) -> Option<u32>
+        requires { self.now.mu ≤ i }
+        ensures { Quotient self.now i rest result }
+    {
+        (rest % self.value() == 0).then_some(0)
+    }
+
+    // The quotient before place μ: the power of p in i! has to divide the rest, and what is left of i! has an inverse.
+    #[tactic(auto, using(crate::proofs::Exponents::power_positive))]
+    fn divide_before(&self, i: u32, rest: u32) -> Option<u32>
+        requires { i < self.now.mu }
+        ensures { Quotient self.now i rest result }
+    {
+        let m = self.value();
+        let rest = rest % m;
+        let part = self.factorial(i);
+        let shared = self.prime_power(part);
+        if rest % shared != 0 {
+            return None;
+        }
+        let inverse = self.inverse_of_rest(part);
+        Some(quotient(m, shared, rest, inverse))
+    }
+
     // The one number c below w(i) with c·i! = rest modulo p ^ e; none where no number has that.
     pub fn divide_by_factorial(&self, i: u32, rest: u32) -> Option<u32>
         ensures { Quotient self.now i rest result }
     {
         if i >= self.mu() {
-            divide_past(self, i, rest)
+            self.divide_past(i, rest)
         } else {
-            divide_before(self, i, rest)
+            self.divide_before(i, rest)
         }
     }
 }

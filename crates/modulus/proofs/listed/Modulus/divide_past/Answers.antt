@@ -7,7 +7,7 @@ use Rattle.modulus.specs.Bounds.{factorial, v}
 use Rattle.modulus.specs.Quotient.{Quotient}
 use Rattle.modulus.proofs.Bounds.{w-positive, v-mono, prime_of}
 use Rattle.modulus.proofs.Division.{never}
-use Rattle.modulus.proofs.units.divide_past.Goals as goal
+use Rattle.modulus.proofs.listed.Modulus.divide_past.Goals as goal
 
 -- 0 where the modulus divides the rest, and else none
 past : (m : Modulus) (i rest : ℕ) → m.mu ≤ i → (even : Bool) → eqb (rest % m.value) 0 ≡ even → Quotient m i rest (then_some even 0)
@@ -19,7 +19,7 @@ past m i rest le false e =
 
 pub returns : goal.returns
 returns c =
-    let m = c.args.modulus.now in
+    let m = c.args.self.now in
     subst (λ (r : Option ℕ). Quotient m c.args.i c.args.rest r)
     (sym (c.then_some.ensures ∙ ap (λ (n : ℕ). then_some (eqb (c.args.rest % n) 0) 0) c.value.ensures.is))
     (past m c.args.i c.args.rest c.requires (eqb (c.args.rest % m.value) 0) refl)

@@ -3,11 +3,11 @@ use Rattle.std.proofs.lemmas.Nat.{mul-mod}
 use Rattle.modulus.specs.Bounds.{exponent}
 use Rattle.modulus.proofs.Bounds.{prime_of}
 use Rattle.modulus.proofs.Division.{unit, unit_step}
-use Rattle.modulus.proofs.units.factorial.Goals as goal
+use Rattle.modulus.proofs.listed.Modulus.factorial.Goals as goal
 
 pub loop-j-preserved : goal.loop-j-preserved
 loop-j-preserved c =
-    let m = c.args.modulus.now in
+    let m = c.args.self.now in
     let p = m.prime in
     let n = m.value in
     let j = c.loop-j.j in

@@ -5,7 +5,7 @@ use Rattle.modulus.specs.Moduli.{Listed}
 use Rattle.modulus.proofs.Bounds.{listed-prime, w-positive, prime_of}
 use Rattle.modulus.proofs.Congruences.{cong_from_mod}
 use Rattle.modulus.proofs.Division.{unit, unit_left, never, divides, bound_is, mul_mod_left}
-use Rattle.modulus.proofs.units.divide_before.Goals as goal
+use Rattle.modulus.proofs.listed.Modulus.divide_before.Goals as goal
 
 -- ---- the power of p in i!
 shared : (p k i g : ℕ) → k ≡ v p i → g ≡ p ^ k → g ≡ p ^ v p i
@@ -13,7 +13,7 @@ shared p k i g b e = e ∙ ap (λ (n : ℕ). p ^ n) b
 
 pub returns-then-rest-shared-ne0 : goal.returns-then-rest-shared-ne0
 returns-then-rest-shared-ne0 c =
-    let m = c.args.modulus.now in
+    let m = c.args.self.now in
     let k = c.factorial-part.ensures.exponent in
     let g = shared m.prime c.factorial-part.result.exponent c.args.i c.prime_power-shared.result k c.prime_power-shared.ensures in
     never m.prime m.exponent m.value c.args.i (v m.prime c.args.i) c.args.rest (prime_of m) m.power
@@ -22,7 +22,7 @@ returns-then-rest-shared-ne0 c =
 
 pub inverse_of_rest-inverse-requires-clause-unit : goal.inverse_of_rest-inverse-requires-clause-unit
 inverse_of_rest-inverse-requires-clause-unit c =
-    let m = c.args.modulus.now in
+    let m = c.args.self.now in
     rw (c.factorial-part.ensures.rest ∙ ap (λ (n : ℕ). unit m.prime c.args.i % n) m.power) (unit_left m.prime m.exponent (prime_of m) m.listed.0 c.args.i)
 
 -- the bound of the place
@@ -32,12 +32,12 @@ bound p e i k m g listed same below power is =
 
 pub quotient-requires-clause-bounded : goal.quotient-requires-clause-bounded
 quotient-requires-clause-bounded c =
-    let m = c.args.modulus.now in
+    let m = c.args.self.now in
     rw (bound m.prime m.exponent c.args.i c.factorial-part.result.exponent c.value-m.result c.prime_power-shared.result m.listed c.factorial-part.ensures.exponent c.factorial-part.ensures.below c.value-m.ensures.power c.prime_power-shared.ensures) (w-positive m.prime m.exponent c.args.i m.listed)
 
 pub returns : goal.returns
 returns c =
-    let m = c.args.modulus.now in
+    let m = c.args.self.now in
     let p = m.prime in
     let e = m.exponent in
     let i = c.args.i in

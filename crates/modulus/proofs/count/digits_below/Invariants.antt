@@ -1,6 +1,0 @@
-use Rattle.std.proofs.Common.{◌≡◌}
-use Rattle.modulus.specs.Bounds.{v, open_digits}
-use Rattle.modulus.proofs.count.digits_below.Given as goal
-
-abbrev pub invariant-loop-i : goal.invariant-loop-i
-invariant-loop-i l = record { reached : l.reached ≡ v l.modulus.prime l.i; digits : l.digits ≡ open_digits l.modulus.prime l.modulus.exponent l.i }
