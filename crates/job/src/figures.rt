@@ -28,7 +28,7 @@ const BLANK: Step = Step {
     k: 0,
 };
 
-// Offers the values in their order until one is refused, and answers that refusal.
+// Offers the values in their order until one is refused, and answers that refusal. The index is for the proof: its invariant speaks of the values from there on.
 fn offer_all(fit: &mut Fit, values: &[u32]) -> Option<Refusal>
     ensures modulus { fit.new.modulus ≡ fit.old.modulus }
     ensures judged { Judged (power_of fit.old.modulus) (stands fit.old) values.now (stands fit.new) result }
