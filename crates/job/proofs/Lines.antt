@@ -8,14 +8,10 @@ use Rattle.job.specs.Reading.{LineThen, ListThen, NoLine, NoListLine, NoValues, 
 use Rattle.job.specs.Text.{IsBadLine, exponent_line, more_bytes, no_exponent, no_values, prime_line}
 use Rattle.job.proofs.Grammar.{has_more, lacks_exponent, lacks_values, list_parts}
 
--- what `ok_or` lets through, and what it refuses
-pub found : {T : Type 0} (o : Option T) (f : Refusal) (x : T) (P : Type 0) (Q : T → Type 0) → Ok x ≡ ok_or o f → MatchOption o P Q → Q x
-found None f x P Q e h = absurd (cc e)
-found (Some y) f x P Q e h = let same : y ≡ x = cc e in subst Q same h
-
-pub missing : {T : Type 0} (o : Option T) (line : ℕ) (f : Refusal) (P : Type 0) (Q : T → Type 0) → Err f ≡ ok_or o (BadLine line) → MatchOption o P Q → P × (f ≡ BadLine line)
-missing None line f P Q e h = (h, cc e)
-missing (Some y) line f P Q e h = absurd (cc e)
+-- the refusal that `ok_or` makes
+pub refused : {T : Type 0} (o : Option T) (given : Refusal) {f : Refusal} → Err f ≡ ok_or o given → f ≡ given
+refused None given e = cc e
+refused (Some x) given e = absurd (cc e)
 
 pub some_left : (n : ℕ) → false ≡ (n == 0) → 0 < n
 some_left zero e = absurd (cc e)
