@@ -1,9 +1,8 @@
 -- What a reader of lines answers, and what it refuses. Rests on the grammar of jobs.
-use Rattle.std.proofs.Common.{◌≡◌, ℕ, zero, suc, false, ◌==◌, ◌<◌, ◌≤◌, List, [], ◌∷◌, ◌++◌, length, Ok, Err, Some, None, codes, Option, sym, ap, ◌∙◌, subst, arith, MatchOption}
+use Rattle.std.proofs.Common.{◌≡◌, ℕ, ◌<◌, ◌≤◌, List, [], ◌∷◌, ◌++◌, length, Err, Some, None, codes, Option, sym, ap, ◌∙◌, MatchOption}
 use Rattle.std.proofs.lemmas.List.{append_cancel_left}
 use Rattle.std.specs.Option.{ok_or}
 use Rattle.modulus.specs.declared.refusal.Refusal.{Refusal}
-use Rattle.modulus.specs.declared.refusal.Refusal.TheVariants.{BadLine}
 use Rattle.job.specs.Reading.{LineThen, ListThen, NoLine, NoListLine, NoValues, ValuesThen}
 use Rattle.job.specs.Text.{IsBadLine, exponent_line, more_bytes, no_exponent, no_values, prime_line}
 use Rattle.job.proofs.Grammar.{has_more, lacks_exponent, lacks_values, list_parts}
@@ -12,10 +11,6 @@ use Rattle.job.proofs.Grammar.{has_more, lacks_exponent, lacks_values, list_part
 pub refused : {T : Type 0} (o : Option T) (given : Refusal) {f : Refusal} → Err f ≡ ok_or o given → f ≡ given
 refused None given e = cc e
 refused (Some x) given e = absurd (cc e)
-
-pub some_left : (n : ℕ) → false ≡ (n == 0) → 0 < n
-some_left zero e = absurd (cc e)
-some_left (suc n) e = omega arith
 
 -- what the numbers behind the key say of the line, which does not end there
 pub list_line_by : {T : Type 0} (text key left : List ℕ) (items rest : T → List ℕ) (o : Option T) → text ≡ key ++ left → ((xs : List ℕ) → left ≡ 10 ∷ xs → ⊥)

@@ -1,8 +1,8 @@
-use Rattle.std.proofs.Common.{◌≡◌, refl, ◌∙◌}
+use Rattle.std.proofs.Common.{◌<◌, length, refl, ◌∙◌, arith}
+use Rattle.std.proofs.lemmas.Bool.Decides.{nat_tests}
 use Rattle.std.proofs.lemmas.Result.{err_from_is_err_and}
-use Rattle.modulus.specs.declared.refusal.Refusal.TheVariants.{BadLine}
 use Rattle.job.specs.Text.{no_prime, too_long}
-use Rattle.job.proofs.Lines.{fourth_bad, refused, second_bad, some_left, third_bad}
+use Rattle.job.proofs.Lines.{fourth_bad, refused, second_bad, third_bad}
 use Rattle.job.proofs.read.read.Goals as goal
 
 pub returns-then-bytes-gt-BYTES : goal.returns-then-bytes-gt-BYTES
@@ -33,5 +33,6 @@ pub returns-then-not-is_empty : goal.returns-then-not-is_empty
 returns-then-not-is_empty c =
     let first = rw c.in_ok-prime.ensures.ok_part at c.number_line.ensures in
     let second = rw c.in_ok-exponent.ensures.ok_part at c.number_line-2.ensures in
+    let some : 0 < length c.in_ok-values.text.now = grind (arith, nat_tests) in
     let third = rw c.in_ok-values.ensures.ok_part at c.values_line.ensures in
-    (4, fourth_bad c.args.bytes.now c.if-bytes-gt-BYTES.false c.in_ok-prime.prime c.in_ok-prime.text.now first c.in_ok-exponent.exponent c.in_ok-exponent.text.now second c.in_ok-values.values.items c.in_ok-values.text.now third (some_left _ c.if-not-is_empty.ensures), refl)
+    (4, fourth_bad c.args.bytes.now c.if-bytes-gt-BYTES.false c.in_ok-prime.prime c.in_ok-prime.text.now first c.in_ok-exponent.exponent c.in_ok-exponent.text.now second c.in_ok-values.values.items c.in_ok-values.text.now third some, refl)
