@@ -1,25 +1,16 @@
 -- What a reader of lines answers, and what it refuses. Rests on the grammar of jobs.
-use Rattle.std.proofs.Common.{◌≡◌, ℕ, zero, suc, false, ◌==◌, ◌<◌, ◌≤◌, List, [], ◌∷◌, ◌++◌, length, Ok, Err, Some, None, codes, Option, sym, ap, ◌∙◌, subst, arith, MatchOption}
+use Rattle.std.proofs.Common.{◌≡◌, ℕ, ◌<◌, ◌≤◌, List, [], ◌∷◌, ◌++◌, length, Err, Some, None, codes, Option, sym, ap, ◌∙◌, MatchOption}
 use Rattle.std.proofs.lemmas.List.{append_cancel_left}
 use Rattle.std.specs.Option.{ok_or}
 use Rattle.modulus.specs.declared.refusal.Refusal.{Refusal}
-use Rattle.modulus.specs.declared.refusal.Refusal.TheVariants.{BadLine}
 use Rattle.job.specs.Reading.{LineThen, ListThen, NoLine, NoListLine, NoValues, ValuesThen}
 use Rattle.job.specs.Text.{IsBadLine, exponent_line, more_bytes, no_exponent, no_values, prime_line}
 use Rattle.job.proofs.Grammar.{has_more, lacks_exponent, lacks_values, list_parts}
 
--- what `ok_or` lets through, and what it refuses
-pub found : {T : Type 0} (o : Option T) (f : Refusal) (x : T) (P : Type 0) (Q : T → Type 0) → Ok x ≡ ok_or o f → MatchOption o P Q → Q x
-found None f x P Q e h = absurd (cc e)
-found (Some y) f x P Q e h = let same : y ≡ x = cc e in subst Q same h
-
-pub missing : {T : Type 0} (o : Option T) (line : ℕ) (f : Refusal) (P : Type 0) (Q : T → Type 0) → Err f ≡ ok_or o (BadLine line) → MatchOption o P Q → P × (f ≡ BadLine line)
-missing None line f P Q e h = (h, cc e)
-missing (Some y) line f P Q e h = absurd (cc e)
-
-pub some_left : (n : ℕ) → false ≡ (n == 0) → 0 < n
-some_left zero e = absurd (cc e)
-some_left (suc n) e = omega arith
+-- the refusal that `ok_or` makes
+pub refused : {T : Type 0} (o : Option T) (given : Refusal) {f : Refusal} → Err f ≡ ok_or o given → f ≡ given
+refused None given e = cc e
+refused (Some x) given e = absurd (cc e)
 
 -- what the numbers behind the key say of the line, which does not end there
 pub list_line_by : {T : Type 0} (text key left : List ℕ) (items rest : T → List ℕ) (o : Option T) → text ≡ key ++ left → ((xs : List ℕ) → left ≡ 10 ∷ xs → ⊥)

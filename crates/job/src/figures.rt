@@ -1,5 +1,6 @@
 // What the values of a job come to.
 ghost use Rattle.std.specs.Prelude.{◌≡◌, ℕ, List, length};
+ghost use Rattle.std.specs.Result.{result_err};
 ghost use Rattle.fit.specs.Standing.{power_of, stands};
 ghost use Rattle.job.specs.Forms.{page_text};
 ghost use Rattle.job.specs.Report.{FiguresOf, Judged, Reports};
@@ -28,17 +29,15 @@ const BLANK: Step = Step {
     k: 0,
 };
 
-// Offers the values in their order until one is refused, and answers that refusal.
-fn offer_all(fit: &mut Fit, values: &[u32]) -> Option<Refusal>
+// Offers the values in their order until one is refused, and refuses as that one does. The index is for the proof: its invariant speaks of the values from there on.
+fn offer_all(fit: &mut Fit, values: &[u32]) -> Result<(), Refusal>
     ensures modulus { fit.new.modulus ≡ fit.old.modulus }
-    ensures judged { Judged (power_of fit.old.modulus) (stands fit.old) values.now (stands fit.new) result }
+    ensures judged { Judged (power_of fit.old.modulus) (stands fit.old) values.now (stands fit.new) (result_err result) }
 {
     for (_i, value) in values.iter().enumerate() {
-        if let Err(refusal) = fit.offer(*value) {
-            return Some(refusal);
-        }
+        fit.offer(*value)?;
     }
-    None
+    Ok(())
 }
 
 // The multiplications of the ladder for what stands in the fit. No ladder has more steps than the buffer.
@@ -77,6 +76,6 @@ pub(crate) fn figures_of_job(job: &Job) -> Result<Figures, Refusal>
 {
     let mut fit = Fit::new();
     fit.open(job.prime, job.exponent)?;
-    let refusal = offer_all(&mut fit, &job.values);
+    let refusal = offer_all(&mut fit, &job.values).err();
     Ok(figures(&fit, refusal))
 }

@@ -5,6 +5,9 @@ ghost use Rattle.job.specs.Reading.{Ends, LineThen, NoLine, NoNumber, NumberThen
 
 use std::str;
 
+// What a reader found at the front of a text, and the rest of the text.
+pub(crate) type Found<'a, T> = Option<(T, &'a [u8])>;
+
 // The most digits of a number.
 const DIGITS: usize = 5;
 
@@ -19,7 +22,7 @@ fn split_digits(text: &[u8]) -> (&[u8], &[u8])
 }
 
 // The number at the front of the text: 0, or 1 to 5 digits of which the first is not 0. None where there is none, or where more digits follow.
-pub(crate) fn number(text: &[u8]) -> Option<(u32, &[u8])>
+pub(crate) fn number(text: &[u8]) -> Found<'_, u32>
     ensures { MatchOption result (NoNumber text.now) (λ r. NumberThen text.now r.0 r.1.now) }
 {
     let (digits, rest) = split_digits(text);
@@ -41,7 +44,7 @@ pub(crate) fn behind<'a>(text: &'a [u8], front: &[u8]) -> Option<&'a [u8]>
 }
 
 // The line with this key and a number at the front of the text.
-pub(crate) fn number_line<'a>(text: &'a [u8], key: &[u8]) -> Option<(u32, &'a [u8])>
+pub(crate) fn number_line<'a>(text: &'a [u8], key: &[u8]) -> Found<'a, u32>
     ensures { MatchOption result (NoLine text.now key.now) (λ r. LineThen text.now key.now r.0 r.1.now) }
 {
     let (value, rest) = number(behind(text, key)?)?;

@@ -3,13 +3,13 @@ ghost use Rattle.std.specs.Prelude.{◌≡◌, ℕ, ◌≤◌, length, codes, Ma
 ghost use Rattle.job.specs.Reading.{ListThen, NoListLine, NoValues, ValuesThen};
 ghost use Rattle.job.specs.Text.{IsBadLine, Says};
 
-use crate::numbers::{behind, number, number_line};
+use crate::numbers::{Found, behind, number, number_line};
 use crate::parsed::{BYTES, Job, VALUES};
 use arrayvec::ArrayVec;
 use modulus::refusal::Refusal;
 
 // The joined numbers, one at least, at the front of the text, with the end of their line; and the rest.
-fn joined_values(text: &[u8]) -> Option<(ArrayVec<u32, VALUES>, &[u8])>
+fn joined_values(text: &[u8]) -> Found<'_, ArrayVec<u32, VALUES>>
     requires { length text.now ≤ 4096 }
     ensures { MatchOption result (NoValues text.now) (λ r. ValuesThen text.now r.0.items r.1.now) }
 {
@@ -27,7 +27,7 @@ fn joined_values(text: &[u8]) -> Option<(ArrayVec<u32, VALUES>, &[u8])>
 }
 
 // The values in the line at the front of the text, and the rest.
-fn values_line(text: &[u8]) -> Option<(ArrayVec<u32, VALUES>, &[u8])>
+fn values_line(text: &[u8]) -> Found<'_, ArrayVec<u32, VALUES>>
     requires { length text.now ≤ 4096 }
     ensures { MatchOption result (NoListLine text.now (codes "values=")) (λ r. ListThen text.now (codes "values=") r.0.items r.1.now) }
 {

@@ -1,4 +1,5 @@
 use Rattle.std.proofs.Common.{get_or, drop, Some, None, sym, ◌∙◌, subst}
+use Rattle.std.proofs.lemmas.Result.{err_from_is_err_and}
 use Rattle.fit.specs.Rules.{NoOffer}
 use Rattle.fit.specs.Standing.{power_of, stands}
 use Rattle.fit.specs.declared.table.Fit.{Fit}
@@ -15,8 +16,8 @@ loop-i-preserved c =
     let i = c.loop-i._i in
     let f = c.loop-i.fit in
     let m = power_of c.args.fit.now.modulus in
-    let got = c.in_default.ensures in
-    let taken = c.in_default.field-0 in
+    let got = c.in_ok-offer.ensures in
+    let taken = c.in_ok-offer.field-0 in
     let fits : (r : Refusal) → NoOffer m (stands f) (get_or values i 0) r → ⊥ =
     λ r h. not_both f.modulus.prime f.modulus.exponent (stands f) (get_or values i 0) taken.place taken.coefficient r got.cases.0
     (subst (λ (n : Modulus). NoOffer (power_of n) (stands f) (get_or values i 0) r) (sym c.loop-i.invariant.0) h) in (
@@ -24,18 +25,20 @@ loop-i-preserved c =
       λ end r h. c.loop-i.invariant.1 end r (judged-next m (stands f) (stands c.offer.new.self) values i 0 c.loop-i-test.true fits got.cases.1 end r h),
     )
 
-pub returns-in-Err-clause-judged : goal.returns-in-Err-clause-judged
-returns-in-Err-clause-judged c =
+pub returns-in_err-offer-clause-judged : goal.returns-in_err-offer-clause-judged
+returns-in_err-offer-clause-judged c =
     let values = c.args.values.now in
     let i = c.loop-i._i in
     let f = c.loop-i.fit in
     let m = power_of c.args.fit.now.modulus in
-    let got = c.in-Err.ensures in
-    let no : NoOffer m (stands f) (get_or values i 0) c.in-Err.refusal =
-    subst (λ (n : Modulus). NoOffer (power_of n) (stands f) (get_or values i 0) c.in-Err.refusal) c.loop-i.invariant.0 got.cases.0 in
-    c.loop-i.invariant.1 (stands c.offer.new.self) (Some c.in-Err.refusal)
-    (subst (λ (g : Fit). Judged m (stands f) (drop i values) (stands g) (Some c.in-Err.refusal)) (sym got.cases.1)
-    (judged-stop m (stands f) values i 0 c.in-Err.refusal c.loop-i-test.true no))
+    let got = c.in_err-offer.ensures in
+    let p = err_from_is_err_and c.from_residual.result c.from_residual.ensures.1 in
+    let no : NoOffer m (stands f) (get_or values i 0) p.0 =
+    subst (λ (r : Refusal). NoOffer m (stands f) (get_or values i 0) r) (sym p.2)
+    (subst (λ (n : Modulus). NoOffer (power_of n) (stands f) (get_or values i 0) c.in_err-offer.field-0.0) c.loop-i.invariant.0 got.cases.0) in
+    rw (p.1) (c.loop-i.invariant.1 (stands c.offer.new.self) (Some p.0)
+    (subst (λ (g : Fit). Judged m (stands f) (drop i values) (stands g) (Some p.0)) (sym got.cases.1)
+    (judged-stop m (stands f) values i 0 p.0 c.loop-i-test.true no)))
 
 pub returns-clause-judged : goal.returns-clause-judged
 returns-clause-judged c =

@@ -1,7 +1,8 @@
-use Rattle.std.proofs.Common.{refl, ◌∙◌}
+use Rattle.std.proofs.Common.{◌<◌, length, refl, ◌∙◌, arith}
+use Rattle.std.proofs.lemmas.Bool.Decides.{nat_tests}
 use Rattle.std.proofs.lemmas.Result.{err_from_is_err_and}
 use Rattle.job.specs.Text.{no_prime, too_long}
-use Rattle.job.proofs.Lines.{found, missing, some_left, second_bad, third_bad, fourth_bad}
+use Rattle.job.proofs.Lines.{fourth_bad, refused, second_bad, third_bad}
 use Rattle.job.proofs.read.read.Goals as goal
 
 pub returns-then-bytes-gt-BYTES : goal.returns-then-bytes-gt-BYTES
@@ -10,27 +11,28 @@ returns-then-bytes-gt-BYTES c = (0, too_long c.if-bytes-gt-BYTES.true, refl)
 pub returns-in_err-prime : goal.returns-in_err-prime
 returns-in_err-prime c =
     let p = err_from_is_err_and c.from_residual.result c.from_residual.ensures.1 in
-    let none = missing c.number_line.result 1 c.in_err-prime.field-0.0 _ _ c.in_err-prime.ensures.value c.number_line.ensures in
-    rw (p.1) (1, no_prime c.if-bytes-gt-BYTES.false (λ first. none.0 first.0 first.1 first.2 first.3), p.2 ∙ none.1)
+    let none = rw c.in_err-prime.ensures.ok_part at c.number_line.ensures in
+    rw (p.1) (1, no_prime c.if-bytes-gt-BYTES.false (λ first. none first.0 first.1 first.2 first.3), p.2 ∙ refused _ _ c.in_err-prime.ensures.value)
 
 pub returns-in_err-exponent : goal.returns-in_err-exponent
 returns-in_err-exponent c =
     let p = err_from_is_err_and c.from_residual-in_err-exponent.result c.from_residual-in_err-exponent.ensures.1 in
-    let first = found c.number_line.result _ (c.in_ok-prime.prime, c.in_ok-prime.text) _ _ c.in_ok-prime.ensures.value c.number_line.ensures in
-    let none = missing c.number_line-2.result 2 c.in_err-exponent.field-0.0 _ _ c.in_err-exponent.ensures.value c.number_line-2.ensures in
-    rw (p.1) (2, second_bad c.args.bytes.now c.if-bytes-gt-BYTES.false c.in_ok-prime.prime c.in_ok-prime.text.now first none.0, p.2 ∙ none.1)
+    let first = rw c.in_ok-prime.ensures.ok_part at c.number_line.ensures in
+    let none = rw c.in_err-exponent.ensures.ok_part at c.number_line-2.ensures in
+    rw (p.1) (2, second_bad c.args.bytes.now c.if-bytes-gt-BYTES.false c.in_ok-prime.prime c.in_ok-prime.text.now first none, p.2 ∙ refused _ _ c.in_err-exponent.ensures.value)
 
 pub returns-in_err-values : goal.returns-in_err-values
 returns-in_err-values c =
     let p = err_from_is_err_and c.from_residual-in_err-values.result c.from_residual-in_err-values.ensures.1 in
-    let first = found c.number_line.result _ (c.in_ok-prime.prime, c.in_ok-prime.text) _ _ c.in_ok-prime.ensures.value c.number_line.ensures in
-    let second = found c.number_line-2.result _ (c.in_ok-exponent.exponent, c.in_ok-exponent.text) _ _ c.in_ok-exponent.ensures.value c.number_line-2.ensures in
-    let none = missing c.values_line.result 3 c.in_err-values.field-0.0 _ _ c.in_err-values.ensures.value c.values_line.ensures in
-    rw (p.1) (3, third_bad c.args.bytes.now c.if-bytes-gt-BYTES.false c.in_ok-prime.prime c.in_ok-prime.text.now first c.in_ok-exponent.exponent c.in_ok-exponent.text.now second none.0, p.2 ∙ none.1)
+    let first = rw c.in_ok-prime.ensures.ok_part at c.number_line.ensures in
+    let second = rw c.in_ok-exponent.ensures.ok_part at c.number_line-2.ensures in
+    let none = rw c.in_err-values.ensures.ok_part at c.values_line.ensures in
+    rw (p.1) (3, third_bad c.args.bytes.now c.if-bytes-gt-BYTES.false c.in_ok-prime.prime c.in_ok-prime.text.now first c.in_ok-exponent.exponent c.in_ok-exponent.text.now second none, p.2 ∙ refused _ _ c.in_err-values.ensures.value)
 
 pub returns-then-not-is_empty : goal.returns-then-not-is_empty
 returns-then-not-is_empty c =
-    let first = found c.number_line.result _ (c.in_ok-prime.prime, c.in_ok-prime.text) _ _ c.in_ok-prime.ensures.value c.number_line.ensures in
-    let second = found c.number_line-2.result _ (c.in_ok-exponent.exponent, c.in_ok-exponent.text) _ _ c.in_ok-exponent.ensures.value c.number_line-2.ensures in
-    let third = found c.values_line.result _ (c.in_ok-values.values, c.in_ok-values.text) _ _ c.in_ok-values.ensures.value c.values_line.ensures in
-    (4, fourth_bad c.args.bytes.now c.if-bytes-gt-BYTES.false c.in_ok-prime.prime c.in_ok-prime.text.now first c.in_ok-exponent.exponent c.in_ok-exponent.text.now second c.in_ok-values.values.items c.in_ok-values.text.now third (some_left _ c.if-not-is_empty.ensures), refl)
+    let first = rw c.in_ok-prime.ensures.ok_part at c.number_line.ensures in
+    let second = rw c.in_ok-exponent.ensures.ok_part at c.number_line-2.ensures in
+    let some : 0 < length c.in_ok-values.text.now = grind (arith, nat_tests) in
+    let third = rw c.in_ok-values.ensures.ok_part at c.values_line.ensures in
+    (4, fourth_bad c.args.bytes.now c.if-bytes-gt-BYTES.false c.in_ok-prime.prime c.in_ok-prime.text.now first c.in_ok-exponent.exponent c.in_ok-exponent.text.now second c.in_ok-values.values.items c.in_ok-values.text.now third some, refl)
