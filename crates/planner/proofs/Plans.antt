@@ -1,7 +1,6 @@
 -- The laws of every plan: it computes the reported polynomial, passes the step check, and is the only one of its kind. Assumes nothing.
 use Rattle.std.proofs.Common.{◌≡◌, ℕ, ◌^◌, ◌<◌, ◌≤◌, List, length, get_or, ℤ, sym, ap, ◌∙◌, subst, arith}
 use Rattle.modulus.specs.Moduli.{Listed}
-use Rattle.modulus.specs.declared.refusal.Refusal.{Refusal}
 use Rattle.modulus.specs.declared.refusal.Refusal.TheVariants.{ShortBuffer}
 use Rattle.modulus.proofs.Bounds.{above_one}
 use Rattle.modulus.proofs.Congruences.{cong_path, cong_sym, cong_trans, same-from_cong}
