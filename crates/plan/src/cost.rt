@@ -17,33 +17,50 @@ pub struct Price {
     pub depth: u32,
 }
 
-// The depth that a step gives its tray.
-fn depth_at(depths: &[u32; NUMBERS], s: Step) -> u32
-    requires { (t : ℕ) → slice_index depths.now t ≤ 65535 }
-    ensures { result ≡ depth_by 1 0 depths.now s s.op }
-{
-    let a = depths[usize::from(s.a)];
-    let b = depths[usize::from(s.b)];
-    match s.op {
-        Op::Add => a.max(b),
-        Op::Multiply => a.max(b) + 1,
-        Op::Scale | Op::Shift => a,
-    }
+// What a multiplication and a scaling add to a depth.
+#[derive(Clone, Copy)]
+struct Weights {
+    multiply: u32,
+    scale: u32,
+    ghost small: { multiply + scale ≤ 32 },
 }
 
-// The list's depth.
-fn depth(steps: &[Step]) -> u32
-    requires { length steps.now ≤ 160 }
-    ensures { result ≡ depth_of 1 0 steps.now }
-{
-    let mut depths = [0; NUMBERS];
-    let mut greatest: u32 = 0;
-    for s in steps {
-        let here = depth_at(&depths, *s);
-        depths[usize::from(s.to)] = here;
-        greatest = greatest.max(here);
+// A cost counts multiplications alone.
+const WEIGHTS: Weights = Weights {
+    multiply: 1,
+    scale: 0,
+};
+
+impl Weights {
+    // The depth that a step gives its tray.
+    fn depth_at(self, depths: &[u32; NUMBERS], s: Step) -> u32
+        requires { (t : ℕ) → slice_index depths.now t ≤ 65535 }
+        ensures { result ≡ depth_by self.multiply self.scale depths.now s s.op }
+    {
+        let a = depths[usize::from(s.a)];
+        let b = depths[usize::from(s.b)];
+        match s.op {
+            Op::Add => a.max(b),
+            Op::Multiply => a.max(b) + self.multiply,
+            Op::Scale => a + self.scale,
+            Op::Shift => a,
+        }
     }
-    greatest
+
+    // The list's depth. Each step changes the table that the next one reads.
+    fn depth(self, steps: &[Step]) -> u32
+        requires { length steps.now ≤ 160 }
+        ensures { result ≡ depth_of self.multiply self.scale steps.now }
+    {
+        let mut depths = [0; NUMBERS];
+        let mut greatest: u32 = 0;
+        for s in steps {
+            let here = self.depth_at(&depths, *s);
+            depths[usize::from(s.to)] = here;
+            greatest = greatest.max(here);
+        }
+        greatest
+    }
 }
 
 // How many steps multiply.
@@ -64,6 +81,6 @@ pub fn cost(steps: &[Step]) -> Result<Price, Refusal>
     Ok(Price {
         steps: steps.len(),
         multiplications: multiplications(steps),
-        depth: depth(steps),
+        depth: WEIGHTS.depth(steps),
     })
 }
