@@ -69,7 +69,8 @@ impl Size {
         self.terms(draft, a, at);
     }
 
-    // The blocks below this one, the last of them first.
+    // The blocks below this one, the last of them first. They are counted, and not cut into chunks: each contract would have to say
+    // that the list is made of whole blocks.
     fn lower(self, draft: &mut Draft, a: &[u16], block: usize)
         requires within { block * self.value ≤ length a.now }
         requires room { length draft.old.items + 2 * self.value * block ≤ 152 }

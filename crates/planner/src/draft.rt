@@ -6,6 +6,7 @@ use arrayvec::ArrayVec;
 use plan::check::STEPS;
 use plan::step::{Op, Step};
 
+// One function for each kind of step, and not one that takes the kind: a layout then reads as the list of its steps.
 // Tray `to` is the sum of the trays a and b.
 pub(crate) fn add(to: u8, a: u8, b: u8) -> Step
     ensures { result ≡ adds to a b }
