@@ -1,6 +1,7 @@
 -- The marks of the step check say what can be read. Assumes nothing.
-use Rattle.std.proofs.Common.{◌≡◌, ℕ, zero, suc, ◌<◌, Bool, true, false, ◌&&◌, T, eqb, ltb, ◌⊎◌, List, [], ◌∷◌, ◌++◌, length, get_or, set, replicate, sym, refl, ap, ◌∙◌, subst, inl, inr, arith, eqb→eq, ltb→lt}
+use Rattle.std.proofs.Common.{◌≡◌, ℕ, zero, suc, ◌<◌, Bool, true, false, ◌⊎◌, List, [], ◌∷◌, ◌++◌, length, get_or, set, replicate, sym, refl, ◌∙◌, subst, inl, inr, arith}
 use native.Mathlib.Decide.{ℕ_discrete}
+use Rattle.std.proofs.lemmas.Bool.{and_parts, eqb-true, false≢true, ltb-true}
 use Rattle.std.proofs.lemmas.List.{get_or-set_same, get_or-set_other}
 use Rattle.plan.specs.Marks.{marked, good_by}
 use Rattle.plan.specs.Steps.{Written, Readable, Formed, Good}
@@ -13,44 +14,27 @@ pub record Marks (before : List Step) (readable : List Bool) : Type 0 where
   pub right : (t : ℕ) → t < 64 → get_or readable t false ≡ true → Readable before t
   pub all : (t : ℕ) → t < 64 → Readable before t → get_or readable t false ≡ true
 
-false_not_true : false ≡ true → ⊥
-false_not_true e = let z : ◌≡◌ {A = ℕ} 0 1 = ap (λ (t : Bool). elim t [ true ↦ 1 | false ↦ 0 ]) e in omega arith
-
-both_first : (a b : Bool) → (a && b) ≡ true → a ≡ true
-both_first true b h = refl
-both_first false b h = h
-
-both_second : (a b : Bool) → (a && b) ≡ true → b ≡ true
-both_second true b h = h
-both_second false b h = absurd (false_not_true h)
-
-from_ltb : (a b : ℕ) → ltb a b ≡ true → a < b
-from_ltb a b h = ltb→lt a b (subst T (sym h) tt)
-
-from_eqb : (a b : ℕ) → eqb a b ≡ true → a ≡ b
-from_eqb a b h = eqb→eq a b (subst T (sym h) tt)
-
 module _ (m : ℕ) (before : List Step) (readable : List Bool) (marks : Marks before readable) (s : Step) where
-  pub formed_from : (op : Op) → s.b < 64 → marked m readable s op ≡ true → Formed m before s op
-  formed_from Add lt h = (marks.right s.b lt (both_first (get_or readable s.b false) (eqb s.k 0) h), from_eqb s.k 0 (both_second (get_or readable s.b false) (eqb s.k 0) h))
-  formed_from Multiply lt h = (marks.right s.b lt (both_first (get_or readable s.b false) (eqb s.k 0) h), from_eqb s.k 0 (both_second (get_or readable s.b false) (eqb s.k 0) h))
-  formed_from Scale lt h = (from_eqb s.b 0 (both_first (eqb s.b 0) (ltb s.k m) h), from_ltb s.k m (both_second (eqb s.b 0) (ltb s.k m) h))
-  formed_from Shift lt h = (from_eqb s.b 0 (both_first (eqb s.b 0) (ltb s.k m) h), from_ltb s.k m (both_second (eqb s.b 0) (ltb s.k m) h))
+  formed_from : (op : Op) → s.b < 64 → marked m readable s op ≡ true → Formed m before s op
+  formed_from Add lt h = let (read, none) = and_parts _ _ h in (marks.right s.b lt read, eqb-true s.k 0 none)
+  formed_from Multiply lt h = let (read, none) = and_parts _ _ h in (marks.right s.b lt read, eqb-true s.k 0 none)
+  formed_from Scale lt h = let (none, small) = and_parts _ _ h in (eqb-true s.b 0 none, ltb-true s.k m small)
+  formed_from Shift lt h = let (none, small) = and_parts _ _ h in (eqb-true s.b 0 none, ltb-true s.k m small)
 
   pub good_from : good_by m readable s ≡ true → Good m before s
   good_from h =
-      let h₁ = both_second (ltb s.to 64) _ h in
-      let h₂ = both_second (ltb s.a 64) _ h₁ in
-      let h₃ = both_second (ltb s.b 64) _ h₂ in
-      let to : s.to < 64 = from_ltb s.to 64 (both_first (ltb s.to 64) _ h) in
-      let a : s.a < 64 = from_ltb s.a 64 (both_first (ltb s.a 64) _ h₁) in
-      let b : s.b < 64 = from_ltb s.b 64 (both_first (ltb s.b 64) _ h₂) in
-      record { to_tray = to; a_tray = a; b_tray = b; reads = marks.right s.a a (both_first (get_or readable s.a false) _ h₃); formed = formed_from s.op b (both_second (get_or readable s.a false) _ h₃) }
+      let (h₁, rest₁) = and_parts _ _ h in
+      let (h₂, rest₂) = and_parts _ _ rest₁ in
+      let (h₃, rest₃) = and_parts _ _ rest₂ in
+      let (h₄, h₅) = and_parts _ _ rest₃ in
+      let a : s.a < 64 = ltb-true s.a 64 h₂ in
+      let b : s.b < 64 = ltb-true s.b 64 h₃ in
+      record { to_tray = ltb-true s.to 64 h₁; a_tray = a; b_tray = b; reads = marks.right s.a a h₄; formed = formed_from s.op b h₅ }
 
 -- ---- the marks before the first step, and behind one step more
 no_marks : (n t : ℕ) → get_or (replicate n false) t false ≡ true → ⊥
-no_marks zero t h = false_not_true h
-no_marks (suc n) zero h = false_not_true h
+no_marks zero t h = false≢true h
+no_marks (suc n) zero h = false≢true h
 no_marks (suc n) (suc t) h = no_marks n t h
 
 pub marks_none : (n : ℕ) → Marks [] (true ∷ replicate n false)
@@ -65,14 +49,22 @@ marks_none n = record { right = λ t _. right t; all = λ t _. all t }
     all (suc t) (inl e) = absurd (omega arith)
     all (suc t) (inr w) = absurd w
 
-written-old : (before : List Step) (s : Step) (t : ℕ) → Written before t → Written (before ++ s ∷ []) t
-written-old [] s t w = absurd w
-written-old (x ∷ before) s t (inl e) = inl e
-written-old (x ∷ before) s t (inr w) = inr (written-old before s t w)
+-- what was written stays written behind more steps
+pub written-more : (before after : List Step) (t : ℕ) → Written before t → Written (before ++ after) t
+written-more [] after t w = absurd w
+written-more (x ∷ before) after t (inl e) = inl e
+written-more (x ∷ before) after t (inr w) = inr (written-more before after t w)
 
-written_new : (before : List Step) (s : Step) → Written (before ++ s ∷ []) s.to
-written_new [] s = inl refl
-written_new (x ∷ before) s = inr (written_new before s)
+pub readable_more : (before after : List Step) (t : ℕ) → Readable before t → Readable (before ++ after) t
+readable_more before after t (inl e) = inl e
+readable_more before after t (inr w) = inr (written-more before after t w)
+
+pub readable_last : (before : List Step) (s : Step) → Readable (before ++ s ∷ []) s.to
+readable_last before s = inr (last before)
+  where
+    last : (before : List Step) → Written (before ++ s ∷ []) s.to
+    last [] = inl refl
+    last (x ∷ before) = inr (last before)
 
 written_either : (before : List Step) (s : Step) (t : ℕ) → Written (before ++ s ∷ []) t → Written before t ⊎ (s.to ≡ t)
 written_either [] s t (inl e) = inr e
@@ -90,13 +82,9 @@ marks_more before readable s lt marks = record { right = right; all = all }
     right : (t : ℕ) → t < 64 → get_or (set readable s.to true) t false ≡ true → Readable (before ++ s ∷ []) t
     right t small h = go (ℕ_discrete t s.to)
       where
-        old : Readable before t → Readable (before ++ s ∷ []) t
-        old (inl e) = inl e
-        old (inr w) = inr (written-old before s t w)
-
         go : Dec (t ≡ s.to) → Readable (before ++ s ∷ []) t
-        go (yes same) = inr (subst (λ (n : ℕ). Written (before ++ s ∷ []) n) (sym same) (written_new before s))
-        go (no other) = old (marks.right t small (sym (get_or-set_other readable s.to t true false other) ∙ h))
+        go (yes same) = subst (λ (n : ℕ). Readable (before ++ s ∷ []) n) (sym same) (readable_last before s)
+        go (no other) = readable_more before (s ∷ []) t (marks.right t small (sym (get_or-set_other readable s.to t true false other) ∙ h))
 
     all : (t : ℕ) → t < 64 → Readable (before ++ s ∷ []) t → get_or (set readable s.to true) t false ≡ true
     all t small r = go (ℕ_discrete t s.to) r

@@ -9,11 +9,6 @@ use modulus::refusal::Refusal;
 // One more than the greatest number that a tray can have.
 const NUMBERS: usize = 256;
 
-// The weight of a multiplication and of a scaling in a depth.
-const MULTIPLY: u32 = 1;
-
-const SCALE: u32 = 0;
-
 // A list's number of steps, how many of them multiply, and its depth: the greatest number of multiplications that lie one behind the other.
 #[derive(Clone, Copy, PartialEq, Eq, Debug)]
 pub struct Price {
@@ -22,59 +17,58 @@ pub struct Price {
     pub depth: u32,
 }
 
-// The depth that a step gives its tray.
-fn depth_at(depths: &[u32], s: Step, multiply: u32, scale: u32) -> u32
-    requires all { length depths.now ≡ 256 }
-    requires small { (t : ℕ) → slice_index depths.now t ≤ 65535 }
-    requires weights { multiply + scale ≤ 32 }
-    ensures { result ≡ depth_by multiply scale depths.now s s.op }
-{
-    let a = depths[s.a as usize];
-    let b = depths[s.b as usize];
-    match s.op {
-        Op::Add => a.max(b),
-        Op::Multiply => a.max(b) + multiply,
-        Op::Scale => a + scale,
-        Op::Shift => a,
-    }
+// What a multiplication and a scaling add to a depth.
+#[derive(Clone, Copy)]
+struct Weights {
+    multiply: u32,
+    scale: u32,
+    ghost small: { multiply + scale ≤ 32 },
 }
 
-// The list's depth by these weights.
-fn depth(steps: &[Step], multiply: u32, scale: u32) -> u32
-    requires few { length steps.now ≤ 160 }
-    requires weights { multiply + scale ≤ 32 }
-    ensures { result ≡ depth_of multiply scale steps.now }
-{
-    let mut depths = [0; NUMBERS];
-    let mut greatest: u32 = 0;
-    for s in steps {
-        let here = depth_at(&depths, *s, multiply, scale);
-        depths[s.to as usize] = here;
-        greatest = greatest.max(here);
-    }
-    greatest
-}
+// A cost counts multiplications alone.
+const WEIGHTS: Weights = Weights {
+    multiply: 1,
+    scale: 0,
+};
 
-// 1 for a step that multiplies.
-fn counts(op: Op) -> u32
-    ensures { result ≡ multiplies op }
-{
-    match op {
-        Op::Multiply => 1,
-        _ => 0,
+impl Weights {
+    // The depth that a step gives its tray.
+    fn depth_at(self, depths: &[u32; NUMBERS], s: Step) -> u32
+        requires { (t : ℕ) → slice_index depths.now t ≤ 65535 }
+        ensures { result ≡ depth_by self.multiply self.scale depths.now s s.op }
+    {
+        let a = depths[usize::from(s.a)];
+        let b = depths[usize::from(s.b)];
+        match s.op {
+            Op::Add => a.max(b),
+            Op::Multiply => a.max(b) + self.multiply,
+            Op::Scale => a + self.scale,
+            Op::Shift => a,
+        }
+    }
+
+    // The list's depth. Each step changes the table that the next one reads.
+    fn depth(self, steps: &[Step]) -> u32
+        requires { length steps.now ≤ 160 }
+        ensures { result ≡ depth_of self.multiply self.scale steps.now }
+    {
+        let mut depths = [0; NUMBERS];
+        let mut greatest: u32 = 0;
+        for s in steps {
+            let here = self.depth_at(&depths, *s);
+            depths[usize::from(s.to)] = here;
+            greatest = greatest.max(here);
+        }
+        greatest
     }
 }
 
 // How many steps multiply.
 fn multiplications(steps: &[Step]) -> u32
-    requires few { length steps.now ≤ 160 }
+    requires { length steps.now ≤ 160 }
     ensures { result ≡ multiplications_of steps.now }
 {
-    let mut found = 0;
-    for s in steps {
-        found += counts(s.op);
-    }
-    found
+    steps.iter().filter(|s| s.op == Op::Multiply).count() as u32
 }
 
 // The cost of a step list, good or not; refuses a list of more than 160 steps, which is bad at step 160 at the latest.
@@ -87,6 +81,6 @@ pub fn cost(steps: &[Step]) -> Result<Price, Refusal>
     Ok(Price {
         steps: steps.len(),
         multiplications: multiplications(steps),
-        depth: depth(steps, MULTIPLY, SCALE),
+        depth: WEIGHTS.depth(steps),
     })
 }

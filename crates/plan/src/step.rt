@@ -1,9 +1,10 @@
 // Steps.
 
 // What a step does.
-#[derive(Clone, Copy, PartialEq, Eq, Debug)]
+#[derive(Clone, Copy, PartialEq, Eq, Debug, Default)]
 pub enum Op {
     // The sum of two trays.
+    #[default]
     Add = 0,
     // The product of two trays.
     Multiply = 1,
@@ -14,7 +15,7 @@ pub enum Op {
 }
 
 // One step: its result goes into the tray `to`; it reads the tray `a`, an addition and a multiplication also `b`, a scaling and a shift the number `k`.
-#[derive(Clone, Copy, PartialEq, Eq, Debug)]
+#[derive(Clone, Copy, PartialEq, Eq, Debug, Default)]
 pub struct Step {
     pub op: Op,
     pub to: u8,

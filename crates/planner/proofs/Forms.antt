@@ -1,7 +1,8 @@
 -- Newton forms and plans look only at coefficients: zeros at the end of a list change nothing. Assumes nothing.
-use Rattle.std.proofs.Common.{◌≡◌, ℕ, zero, suc, ◌+◌, ◌-◌, ◌*◌, ◌/◌, ◌≤◌, List, [], ◌∷◌, ◌++◌, length, get_or, ℤ, pos, ◌+ℤ◌, ◌*ℤ◌, sym, refl, ap, ◌∙◌, le_refl, le_antisymm, arith}
+use Rattle.std.proofs.Common.{◌≡◌, ℕ, zero, suc, ◌+◌, ◌-◌, ◌*◌, ◌/◌, ◌<◌, ◌≤◌, List, [], ◌∷◌, ◌++◌, length, get_or, take, ℤ, pos, ◌+ℤ◌, ◌*ℤ◌, sym, refl, ap, ◌∙◌, le_refl, le_antisymm, arith}
 use mathlib.Core.Path.{fun_ext}
-use Rattle.std.proofs.lemmas.List.{get_or_past}
+use Rattle.std.proofs.lemmas.List.{get_or-take, get_or_append_left, get_or_past, length-take-le, length_push}
+use Rattle.std.proofs.Math.Seq.{get_or-append_seam}
 use Rattle.modulus.proofs.Integers.{zring}
 use Rattle.poly.specs.Polynomial.{falling, form}
 use Rattle.poly.specs.Reduced.{SameForm, form_length}
@@ -71,11 +72,21 @@ block_same s a b zero h = refl
 block_same s a b (suc n) h = ap (λ (steps : List Step). powers s ++ steps) (blocks-same s a b ((n + s) / s) h)
 
 -- ---- a ladder
-rungs-same : (m : ℕ) (c d : List ℕ) (n : ℕ) → ((k : ℕ) → get_or c k 0 ≡ get_or d k 0) → rungs m c n ≡ rungs m d n
+-- n rungs look only at the first n coefficients
+pub rungs-same : (m : ℕ) (c d : List ℕ) (n : ℕ) → ((k : ℕ) → k < n → get_or c k 0 ≡ get_or d k 0) → rungs m c n ≡ rungs m d n
 rungs-same m c d zero h = refl
 rungs-same m c d (suc i) h =
-    ap (λ (x : ℕ). shifts 2 0 (minus m i) ∷ multiplies 1 1 2 ∷ shifts 1 1 x ∷ rungs m c i) (h i)
-    ∙ ap (λ (steps : List Step). shifts 2 0 (minus m i) ∷ multiplies 1 1 2 ∷ shifts 1 1 (get_or d i 0) ∷ steps) (rungs-same m c d i h)
+    ap (λ (x : ℕ). shifts 2 0 (minus m i) ∷ multiplies 1 1 2 ∷ shifts 1 1 x ∷ rungs m c i) (h i (omega arith))
+    ∙ ap (λ (steps : List Step). shifts 2 0 (minus m i) ∷ multiplies 1 1 2 ∷ shifts 1 1 (get_or d i 0) ∷ steps) (rungs-same m c d i (λ k l. h k (omega arith)))
+
+-- the rungs of one coefficient more
+pub rungs-more : (m : ℕ) (c : List ℕ) (a : ℕ) → rungs m (c ++ a ∷ []) (length (c ++ a ∷ [])) ≡ shifts 2 0 (minus m (length c)) ∷ multiplies 1 1 2 ∷ shifts 1 1 a ∷ rungs m c (length c)
+rungs-more m c a =
+    let long : length (c ++ a ∷ []) ≡ suc (length c) = omega (arith, length_push c a) in
+    ap (rungs m (c ++ a ∷ [])) long
+    ∙ ap (λ (x : ℕ). shifts 2 0 (minus m (length c)) ∷ multiplies 1 1 2 ∷ shifts 1 1 x ∷ rungs m (c ++ a ∷ []) (length c)) (get_or-append_seam c a [] 0)
+    ∙ ap (λ (steps : List Step). shifts 2 0 (minus m (length c)) ∷ multiplies 1 1 2 ∷ shifts 1 1 a ∷ steps)
+    (rungs-same m (c ++ a ∷ []) c (length c) (λ k l. get_or_append_left c (a ∷ []) 0 k l))
 
 -- so does a ladder
 pub ladder-same : (m : ℕ) (c d : List ℕ) (n : ℕ) → ((k : ℕ) → get_or c k 0 ≡ get_or d k 0) → ladder m c n ≡ ladder m d n
@@ -84,4 +95,19 @@ ladder-same m c d (suc zero) h = ap (λ (x : ℕ). scales 1 0 0 ∷ shifts 1 1 x
 ladder-same m c d (suc (suc n)) h =
     ap (λ (x : ℕ). shifts 2 0 (minus m n) ∷ scales 1 2 x ∷ shifts 1 1 (get_or c n 0) ∷ rungs m c n) (h (suc n))
     ∙ ap (λ (x : ℕ). shifts 2 0 (minus m n) ∷ scales 1 2 (get_or d (suc n) 0) ∷ shifts 1 1 x ∷ rungs m c n) (h n)
-    ∙ ap (λ (steps : List Step). shifts 2 0 (minus m n) ∷ scales 1 2 (get_or d (suc n) 0) ∷ shifts 1 1 (get_or d n 0) ∷ steps) (rungs-same m c d n h)
+    ∙ ap (λ (steps : List Step). shifts 2 0 (minus m n) ∷ scales 1 2 (get_or d (suc n) 0) ∷ shifts 1 1 (get_or d n 0) ∷ steps) (rungs-same m c d n (λ k _. h k))
+
+-- the ladder of two coefficients or more: its first steps at the last two of them, and the rungs of those below
+pub ladder_ends : (m : ℕ) (c : List ℕ) → 2 ≤ length c → let below = take (length c - 2) c in
+    ladder m c (length c) ≡ shifts 2 0 (minus m (length below)) ∷ scales 1 2 (get_or c (length c - 1) 0) ∷ shifts 1 1 (get_or c (length c - 2) 0) ∷ rungs m below (length below)
+ladder_ends m c two =
+    let n : ℕ = length c - 2 in
+    let below : List ℕ = take n c in
+    let long : length c ≡ suc (suc n) = omega arith in
+    let last : suc n ≡ length c - 1 = omega arith in
+    let cut : length below ≡ n = length-take-le n c (omega arith) in
+    ap (ladder m c) long
+    ∙ ap (λ (i : ℕ). shifts 2 0 (minus m n) ∷ scales 1 2 (get_or c i 0) ∷ shifts 1 1 (get_or c n 0) ∷ rungs m c n) last
+    ∙ ap (λ (k : ℕ). shifts 2 0 (minus m k) ∷ scales 1 2 (get_or c (length c - 1) 0) ∷ shifts 1 1 (get_or c n 0) ∷ rungs m c k) (sym cut)
+    ∙ ap (λ (steps : List Step). shifts 2 0 (minus m (length below)) ∷ scales 1 2 (get_or c (length c - 1) 0) ∷ shifts 1 1 (get_or c n 0) ∷ steps)
+    (sym (rungs-same m below c (length below) (λ k l. get_or-take n c k 0 (omega (arith, l, cut)))))

@@ -10,26 +10,11 @@ use Rattle.poly.specs.Reduced.{Reduced, form_length}
 use Rattle.poly.proofs.Standing.{form_length-le}
 use Rattle.plan.specs.Steps.{Written, Readable, Good, step_at, Passes}
 use Rattle.plan.specs.declared.step.Step.{Step}
+use Rattle.plan.proofs.Checks.{readable_last, readable_more}
 use Rattle.planner.specs.Layout.{adds, multiplies, scales, shifts, nothing, minus, rungs, ladder, powers, terms, filled, lower, blocks, block}
 use Rattle.planner.proofs.Lengths.{length-ladder_most, length-block_most}
 
 -- ---- what can be read behind more steps
-written-more : (before after : List Step) (t : ℕ) → Written before t → Written (before ++ after) t
-written-more [] after t wrote = absurd wrote
-written-more (x ∷ before) after t (inl e) = inl e
-written-more (x ∷ before) after t (inr wrote) = inr (written-more before after t wrote)
-
-written_last : (before : List Step) (s : Step) → Written (before ++ s ∷ []) s.to
-written_last [] s = inl refl
-written_last (x ∷ before) s = inr (written_last before s)
-
-readable_more : (before after : List Step) (t : ℕ) → Readable before t → Readable (before ++ after) t
-readable_more before after t (inl e) = inl e
-readable_more before after t (inr wrote) = inr (written-more before after t wrote)
-
-readable_last : (before : List Step) (s : Step) → Readable (before ++ s ∷ []) s.to
-readable_last before s = inr (written_last before s)
-
 -- the trays below n can be read
 abbrev Ready : ℕ → List Step → Type 0
 Ready n before = (t : ℕ) → t < n → Readable before t

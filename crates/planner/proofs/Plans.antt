@@ -1,6 +1,7 @@
 -- The laws of every plan: it computes the reported polynomial, passes the step check, and is the only one of its kind. Assumes nothing.
 use Rattle.std.proofs.Common.{◌≡◌, ℕ, ◌^◌, ◌<◌, ◌≤◌, List, length, get_or, ℤ, sym, ap, ◌∙◌, subst, arith}
 use Rattle.modulus.specs.Moduli.{Listed}
+use Rattle.modulus.specs.declared.refusal.Refusal.TheVariants.{ShortBuffer}
 use Rattle.modulus.proofs.Bounds.{above_one}
 use Rattle.modulus.proofs.Congruences.{cong_path, cong_sym, cong_trans, same-from_cong}
 use Rattle.poly.specs.Equivalents.{Alike, SamePolynomial, ints}
@@ -11,11 +12,12 @@ use Rattle.poly.proofs.Equivalents.{same-form_alike}
 use Rattle.poly.proofs.Held.{from_same}
 use Rattle.poly.proofs.Reports.{reported-unique}
 use Rattle.poly.proofs.Standing.{form_length-past}
-use Rattle.plan.specs.Steps.{Passes, Written}
+use Rattle.plan.specs.Steps.{Passes, Written, depth_of, multiplications_of}
 use Rattle.plan.specs.Trays.{answer}
+use Rattle.plan.specs.declared.cost.Price.{Price}
 use Rattle.plan.specs.declared.step.Step.{Step}
 use Rattle.planner.specs.Layout.{Layout, block, ladder}
-use Rattle.planner.specs.Plans.{Computes, Issued, Planned, Sized}
+use Rattle.planner.specs.Plans.{Computes, Issued, NoPlan, no_room, Planned, Priced, Sized}
 use Rattle.planner.specs.declared.kind.Kind.{Kind}
 use Rattle.planner.specs.declared.kind.Kind.TheVariants.{Ladder, Block}
 use Rattle.planner.proofs.Blocks.{block-computes}
@@ -96,3 +98,14 @@ pub one_plan : (p e : ℕ) (ys : List ℕ) (kind : Kind) (steps others : List St
 one_plan p e ys kind steps others plan other =
     layout_same (p ^ e) plan.form_of other.form_of kind steps others
     (reported-unique p e ys plan.form_of other.form_of plan.reported other.reported) plan.laid_out other.laid_out
+
+-- the buffer that the plan was copied into begins with it
+pub issued_as : (p e : ℕ) (ys : List ℕ) (kind : Kind) (steps xs : List Step) → Issued p e ys kind steps → xs ≡ steps → Issued p e ys kind xs
+issued_as p e ys kind steps xs issued same = subst (λ (xs : List Step). Issued p e ys kind xs) (sym same) issued
+
+pub priced_as : (steps xs : List Step) (price : Price) → xs ≡ steps → price.steps ≡ length steps → price.multiplications ≡ multiplications_of steps → price.depth ≡ depth_of 1 0 steps → Priced xs price
+priced_as steps xs price same all multiply deep = subst (λ (xs : List Step). Priced xs price) (sym same) (record { all = all; multiply = multiply; deep = deep })
+
+-- the buffer is too short for the plan
+pub short : (p e : ℕ) (ys : List ℕ) (kind : Kind) (room : ℕ) (steps : List Step) → Issued p e ys kind steps → room < length steps → NoPlan p e ys room kind (ShortBuffer (length steps))
+short p e ys kind room steps issued less = no_room issued.planned less

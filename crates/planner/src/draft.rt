@@ -1,11 +1,12 @@
 // A step list as it is written down, and single steps.
-ghost use Rattle.std.specs.Prelude.{◌≡◌, ◌+◌, ◌<◌, [], ◌∷◌, ◌++◌};
-ghost use Rattle.planner.specs.Draft.{listed};
+ghost use Rattle.std.specs.Prelude.{◌≡◌};
 ghost use Rattle.planner.specs.Layout.{adds, multiplies, scales, shifts};
 
+use arrayvec::ArrayVec;
 use plan::check::STEPS;
 use plan::step::{Op, Step};
 
+// One function for each kind of step, and not one that takes the kind: a layout then reads as the list of its steps.
 // Tray `to` is the sum of the trays a and b.
 pub(crate) fn add(to: u8, a: u8, b: u8) -> Step
     ensures { result ≡ adds to a b }
@@ -58,32 +59,5 @@ pub(crate) fn shift(to: u8, a: u8, k: u16) -> Step
     }
 }
 
-// Room for the most steps of a list, and how many are written.
-#[derive(Clone, Copy)]
-pub(crate) struct Draft {
-    pub(crate) steps: [Step; STEPS],
-    pub(crate) count: usize,
-}
-
-impl Draft {
-    // Nothing is written yet.
-    pub(crate) fn new() -> Draft
-        ensures none { listed result ≡ [] }
-        ensures count { result.count ≡ 0 }
-    {
-        Draft {
-            steps: [shift(0, 0, 0); STEPS],
-            count: 0,
-        }
-    }
-
-    // One step more.
-    pub(crate) fn push(&mut self, s: Step)
-        requires { self.old.count < 160 }
-        ensures listed { listed self.new ≡ listed self.old ++ s ∷ [] }
-        ensures count { self.new.count ≡ self.old.count + 1 }
-    {
-        self.steps[self.count] = s;
-        self.count += 1;
-    }
-}
+// A step list as it is written, with room for the most steps of a list.
+pub(crate) type Draft = ArrayVec<Step, STEPS>;

@@ -1,9 +1,10 @@
-use Rattle.std.proofs.Common.{◌≡◌, ◌+◌, ◌*◌, ◌++◌}
-use Rattle.planner.specs.Draft.{listed}
+use Rattle.std.proofs.Common.{◌≡◌, ◌+◌, ◌*◌, ◌++◌, length}
 use Rattle.planner.specs.Layout.{rungs}
 use Rattle.planner.proofs.ladder.rungs.Given as goal
 
 abbrev pub invariant-loop-i : goal.invariant-loop-i
 invariant-loop-i l =
-    (listed l.draft ++ rungs l.m l.coefficients l.i ≡ listed l.initial.draft ++ rungs l.m l.coefficients l.n)
-    × (l.draft.count + 3 * l.i ≡ l.initial.draft.count + 3 * l.n)
+    let rest = l.i-iterator.iter.iter.rest.now in
+    (l.i-iterator.iter.count ≡ 0)
+    × (l.draft.items ++ rungs l.modulus.value rest (length rest) ≡ l.initial.draft.items ++ rungs l.modulus.value l.coefficients (length l.coefficients))
+    × (length l.draft.items + 3 * length rest ≡ length l.initial.draft.items + 3 * length l.coefficients)
