@@ -3,6 +3,7 @@ use crate::rules::Open;
 use std::fmt;
 
 // The lanes of an element, with commas between them.
+#[derive(Drop)]
 pub struct Lanes<'a, E>(pub &'a E);
 
 impl<E: Open> fmt::Display for Lanes<'_, E> {

@@ -4,14 +4,14 @@ ghost use Rattle.full_desk.specs.Book.{begins, part, room, written};
 ghost use Rattle.full_desk.specs.Desk.{Booked, CarriedOut, Performed};
 ghost use Rattle.full_desk.specs.Kinds.{asked_of, askings, told_of, tellings};
 ghost use Rattle.full_desk.specs.Law.{Decided, LeadsBack};
-ghost use Rattle.full_desk.specs.Stops.{Stops};
-ghost use Rattle.full_desk.specs.declared.carry.Stopped.TheVariants.{NoMemory, Refused};
+ghost use Rattle.desk.specs.Stops.{Stops};
 ghost use Rattle.fit.specs.Standing.{stands};
 ghost use Rattle.plan.specs.declared.step.Step.{Step as StepOf};
 ghost use Rattle.planner.specs.Plans.{Issued, NoPlan, Priced};
 ghost use Rattle.rack.specs.Runs.{NoRun, Runs, meaning_of, meanings};
 
 use crate::uses::{Answer, Use};
+use desk::carry::Stopped;
 use element::rules::Element;
 use fit::table::Fit;
 use modulus::refusal::Refusal;
@@ -22,32 +22,7 @@ use planner::kind::Kind;
 use rack::rack::Rack;
 use rack::run::run;
 use rack::tally::Tally;
-use std::alloc::{AllocError, Global};
-
-// Why a list of uses was not begun.
-#[derive(Clone, Copy, Debug)]
-pub enum Stopped {
-    // The fit could not be opened.
-    Refused { refusal: Refusal },
-    // There was no memory for the answers.
-    NoMemory,
-}
-
-impl From<AllocError> for Stopped {
-    ghost from_gives = { λ _ r. r ≡ NoMemory };
-
-    fn from(_error: AllocError) -> Stopped {
-        Stopped::NoMemory
-    }
-}
-
-impl From<Refusal> for Stopped {
-    ghost from_gives = { λ f r. r ≡ Refused f };
-
-    fn from(refusal: Refusal) -> Stopped {
-        Stopped::Refused { refusal }
-    }
-}
+use std::alloc::Global;
 
 // Writes a plan for what stands in the fit into a part of the buffer.
 fn plan_part(
@@ -97,28 +72,24 @@ fn perform<E: Element>(
     ensures due { Performed tally.old.out fit.old steps.old (meanings E.Element.lanes E.Element.level rack.old.trays.now) (asked_of E.Element.lanes E.Element.level asked) (told_of E.Element.lanes E.Element.level result) fit.new steps.new (meanings E.Element.lanes E.Element.level rack.new.trays.now) }
 {
     match asked {
-        Use::Offer { value } => match fit.offer(value) {
-            Ok(accepted) => Ok(Answer::Stands { accepted }),
-            Err(refusal) => Err(refusal),
-        },
-        Use::Withdraw => match fit.withdraw() {
-            Ok(value) => Ok(Answer::Withdrawn { value }),
-            Err(refusal) => Err(refusal),
-        },
-        Use::Plan { kind, start, count } => match plan_part(fit, steps, kind, start, count) {
-            Ok(price) => Ok(Answer::Written { price }),
-            Err(refusal) => Err(refusal),
-        },
+        Use::Offer { value } => Ok(Answer::Stands {
+            accepted: fit.offer(value)?,
+        }),
+        Use::Withdraw => Ok(Answer::Withdrawn {
+            value: fit.withdraw()?,
+        }),
+        Use::Plan { kind, start, count } => Ok(Answer::Written {
+            price: plan_part(fit, steps, kind, start, count)?,
+        }),
         Use::Run {
             p,
             e,
             start,
             count,
             input,
-        } => match run_part(steps, p, e, start, count, input, rack, tally) {
-            Ok(element) => Ok(Answer::Ran { element }),
-            Err(refusal) => Err(refusal),
-        },
+        } => Ok(Answer::Ran {
+            element: run_part(steps, p, e, start, count, input, rack, tally)?,
+        }),
     }
 }
 

@@ -2,8 +2,8 @@ use Rattle.std.proofs.Common.{sym, refl, subst}
 use Rattle.std.proofs.lemmas.Result.{err_from_is_err_and}
 use Rattle.rack.specs.Runs.{meanings}
 use Rattle.full_desk.specs.Kinds.{askings}
-use Rattle.full_desk.specs.Stops.{Stops, off_the_list, no_memory}
-use Rattle.full_desk.specs.declared.carry.Stopped.TheVariants.{Refused}
+use Rattle.desk.specs.Stops.{Stops, off_the_list, no_memory}
+use Rattle.desk.specs.declared.carry.Stopped.TheVariants.{Refused}
 use Rattle.modulus.specs.declared.refusal.Refusal.{Refusal}
 use Rattle.full_desk.proofs.Books.{carried}
 use Rattle.full_desk.proofs.Laws.{decided, leads_back}
