@@ -1,5 +1,5 @@
 // Uses carried out one after the other.
-ghost use Rattle.std.specs.Prelude.{◌≡◌, ◌≤◌, List, [], length, vec_capacity, MatchResult};
+ghost use Rattle.std.specs.Prelude.{◌≡◌, ◌+◌, ◌-◌, ◌≤◌, List, [], length, min, vec_capacity, MatchResult};
 ghost use Rattle.full_desk.specs.Book.{begins, part, room, written};
 ghost use Rattle.full_desk.specs.Desk.{Booked, CarriedOut, Performed};
 ghost use Rattle.full_desk.specs.Kinds.{asked_of, askings, told_of, tellings};
@@ -23,6 +23,16 @@ use rack::rack::Rack;
 use rack::run::run;
 use rack::tally::Tally;
 use std::alloc::Global;
+use std::ops::Range;
+
+// The places of a part of a buffer of this length, as far as the buffer goes.
+fn part_of(length: usize, start: usize, count: usize) -> Range<usize>
+    ensures start { result.start ≡ min start length }
+    ensures end { result.end ≡ result.start + min count (length - result.start) }
+{
+    let from = start.min(length);
+    from..from + count.min(length - from)
+}
 
 // Writes a plan for what stands in the fit into a part of the buffer.
 fn plan_part(
@@ -34,9 +44,8 @@ fn plan_part(
 ) -> Result<Price, Refusal>
     ensures { MatchResult result (λ price. (made : List StepOf) × Issued fit.now.modulus.prime fit.now.modulus.exponent (stands fit.now) kind made × Priced made price × (length made ≤ room steps.old start count) × (steps.new ≡ written steps.old (begins steps.old start) made)) (λ f. NoPlan fit.now.modulus.prime fit.now.modulus.exponent (stands fit.now) (room steps.old start count) kind f × (steps.new ≡ steps.old)) }
 {
-    let from = start.min(steps.len());
-    let most = count.min(steps.len() - from);
-    plan(fit, kind, &mut steps[from..from + most])
+    let part = part_of(steps.len(), start, count);
+    plan(fit, kind, &mut steps[part])
 }
 
 // Runs a part of the buffer.
@@ -54,9 +63,8 @@ fn run_part<E: Element>(
     ensures lender { rack.new.trays.ghost_name ≡ rack.old.trays.ghost_name }
     ensures cases { MatchResult result (λ x. Runs p e (part steps.now start count) tally.old.out (meanings E.Element.lanes E.Element.level rack.old.trays.now) (meaning_of E.Element.lanes E.Element.level input) (meaning_of E.Element.lanes E.Element.level x) (meanings E.Element.lanes E.Element.level rack.new.trays.now)) (λ f. NoRun p e (part steps.now start count) tally.old.out (meanings E.Element.lanes E.Element.level rack.old.trays.now) (meaning_of E.Element.lanes E.Element.level input) f (meanings E.Element.lanes E.Element.level rack.new.trays.now)) }
 {
-    let from = start.min(steps.len());
-    let most = count.min(steps.len() - from);
-    run(p, e, &steps[from..from + most], input, rack, tally)
+    let part = part_of(steps.len(), start, count);
+    run(p, e, &steps[part], input, rack, tally)
 }
 
 // Carries out one use.
