@@ -1,20 +1,22 @@
 // Runs the plans of one table over elements of several kinds and prints what was answered.
 #![tactic(auto)]
 
-use anyhow::anyhow;
+use anyhow::Context;
 use element::bare::Bare;
 use element::levelled::Levelled;
 use element::rules::Open;
+use element::show::Lanes;
 use element::twin::Twin;
 use fit::table::Fit;
 use modulus::refusal::Refusal;
 use plan::check::STEPS;
-use plan::step::{Op, Step};
+use plan::step::Step;
 use planner::issue::plan;
 use planner::kind::Kind;
 use rack::rack::Rack;
 use rack::run::run;
 use rack::tally::Tally;
+use shown::steps::{BLANK, Steps};
 
 // The modulus 2 ^ 3.
 const PRIME: u32 = 2;
@@ -26,64 +28,11 @@ const TRAYS: usize = 5;
 
 const FEW_TRAYS: usize = 2;
 
-// A step that fills a buffer before a plan is written into it.
-const BLANK: Step = Step {
-    op: Op::Add,
-    to: 0,
-    a: 0,
-    b: 0,
-    k: 0,
-};
-
-// Prints a refusal's number and place.
-fn print_refusal(rt: &HostRuntime, refusal: Refusal) -> anyhow::Result<()> {
-    let number = refusal.number();
-    let place = refusal.place();
-    print!(rt; "refused {number} at {place}")?;
-    Ok(())
-}
-
-// A line for one step.
-fn print_step(rt: &HostRuntime, i: usize, s: Step) -> anyhow::Result<()> {
-    let to = s.to;
-    let a = s.a;
-    let b = s.b;
-    let k = s.k;
-    match s.op {
-        Op::Add => println!(rt; "  {i}: tray {to} is tray {a} + tray {b}")?,
-        Op::Multiply => println!(rt; "  {i}: tray {to} is tray {a} * tray {b}")?,
-        Op::Scale => println!(rt; "  {i}: tray {to} is tray {a} * {k}")?,
-        Op::Shift => println!(rt; "  {i}: tray {to} is tray {a} + {k}")?,
-    }
-    Ok(())
-}
-
-// A line for each step.
-fn print_steps(rt: &HostRuntime, steps: &[Step]) -> anyhow::Result<()> {
-    for (i, s) in steps.iter().enumerate() {
-        print_step(rt, i, *s)?;
-    }
-    Ok(())
-}
-
-// Prints the lanes of an element, with commas between them. Its kind says how many there are: the first number without a lane ends them.
-fn print_lanes<E: Open>(rt: &HostRuntime, x: &E) -> anyhow::Result<()> {
-    for i in 0..usize::MAX {
-        match x.lane(i) {
-            Some(lane) if i == 0 => print!(rt; "{lane}")?,
-            Some(lane) => print!(rt; ",{lane}")?,
-            None => break,
-        }
-    }
-    Ok(())
-}
-
 // A line with the lanes of each tray.
 fn print_trays<E: Open>(rt: &HostRuntime, trays: &[E]) -> anyhow::Result<()> {
     print!(rt; "    trays after it:")?;
     for x in trays {
-        print!(rt; " ")?;
-        print_lanes(rt, x)?;
+        print!(rt; " {}", Lanes(x))?;
     }
     println!(rt; "")?;
     Ok(())
@@ -97,27 +46,15 @@ fn print_run<E: Open>(
     rack: &mut Rack<'_, E>,
     tally: &mut Tally,
 ) -> anyhow::Result<Option<E>> {
-    print_lanes(rt, &input)?;
-    let before = tally.out();
+    println!(rt; "{}:", Lanes(&input))?;
+    println!(rt; "    tally before {}", tally.out())?;
     let answer = run(PRIME, EXPONENT, steps, input, rack, tally);
-    let after = tally.out();
-    println!(rt; ":")?;
-    println!(rt; "    tally before {before}")?;
-    print!(rt; "    ")?;
-    let given = match answer {
-        Ok(x) => {
-            print!(rt; "answer ")?;
-            print_lanes(rt, &x)?;
-            Some(x)
-        }
-        Err(refusal) => {
-            print_refusal(rt, refusal)?;
-            None
-        }
-    };
-    println!(rt; "")?;
-    println!(rt; "    tally after {after}")?;
-    Ok(given)
+    match &answer {
+        Ok(x) => println!(rt; "    answer {}", Lanes(x))?,
+        Err(refusal) => println!(rt; "    {refusal}")?,
+    }
+    println!(rt; "    tally after {}", tally.out())?;
+    Ok(answer.ok())
 }
 
 // A run on a rack over the buffer, with no tray out.
@@ -145,10 +82,7 @@ fn run_within<E: Open>(
         Ok(()) => {
             let _ = print_run(rt, steps, input, rack, hold.tally)?;
         }
-        Err(refusal) => {
-            print_refusal(rt, refusal)?;
-            println!(rt; "")?;
-        }
+        Err(refusal) => println!(rt; "{refusal}")?,
     }
     Ok(())
 }
@@ -168,8 +102,7 @@ fn bare_within(rt: &HostRuntime, steps: &[Step]) -> anyhow::Result<()> {
     print!(rt; "  bare, inside a hold of one tray, input ")?;
     let mut rack = Rack::new(&mut buffer);
     run_within(rt, steps, Bare::new(3), &mut rack, &mut tally)?;
-    let out = tally.out();
-    println!(rt; "    tally after the hold {out}")?;
+    println!(rt; "    tally after the hold {}", tally.out())?;
     print_trays(rt, &buffer)
 }
 
@@ -195,8 +128,7 @@ fn levelled(rt: &HostRuntime, steps: &[Step], level: u8) -> anyhow::Result<()> {
     print!(rt; "  twin at level {level}, input ")?;
     let input = Levelled::new(Twin::new(3, 6), level);
     if let Some(x) = run_on(rt, steps, input, &mut buffer)? {
-        let left = x.left();
-        println!(rt; "    level left {left}")?;
+        println!(rt; "    level left {}", x.left())?;
     }
     print_trays(rt, &buffer)
 }
@@ -212,39 +144,33 @@ fn kinds(rt: &HostRuntime, steps: &[Step]) -> anyhow::Result<()> {
     bare_on_few(rt, steps)
 }
 
-// Writes the plan of this kind into the buffer and prints its steps; answers how many there are.
-fn write(rt: &HostRuntime, fit: &Fit, kind: Kind, buffer: &mut [Step]) -> anyhow::Result<usize> {
-    match plan(fit, kind, buffer) {
-        Ok(price) => {
-            let written = price.steps;
-            print_steps(rt, &buffer[0..written])?;
-            Ok(written)
-        }
-        Err(_) => Err(anyhow!("the plan was refused")),
-    }
+// Writes the plan of this kind for what stands into the buffer and prints it; answers its steps.
+fn written<'a>(
+    rt: &HostRuntime,
+    fit: &Fit,
+    kind: Kind,
+    buffer: &'a mut [Step],
+) -> anyhow::Result<&'a [Step]> {
+    let price = plan(fit, kind, buffer).context("the plan was refused")?;
+    let steps = &buffer[..price.steps];
+    let indent = "  ";
+    print!(rt; "{kind}\n{}", Steps { indent, steps })?;
+    Ok(steps)
 }
 
 // The ladder for what stands, and its runs.
 fn ladder(rt: &HostRuntime, fit: &Fit) -> anyhow::Result<()> {
     let mut buffer = [BLANK; STEPS];
-    println!(rt; "ladder")?;
-    let written = write(rt, fit, Kind::Ladder, &mut buffer)?;
-    if written <= STEPS {
-        kinds(rt, &buffer[0..written])?;
-    }
-    Ok(())
+    let steps = written(rt, fit, Kind::Ladder, &mut buffer)?;
+    kinds(rt, steps)
 }
 
 // The block plan of size 2 for what stands, and a run that gives what the ladder gave.
 fn block(rt: &HostRuntime, fit: &Fit) -> anyhow::Result<()> {
     let mut buffer = [BLANK; STEPS];
-    println!(rt; "block of 2")?;
-    let written = write(rt, fit, Kind::Block { size: 2 }, &mut buffer)?;
-    if written <= STEPS {
-        println!(rt; "a run of the block plan, on a rack of {TRAYS} trays")?;
-        twin(rt, &buffer[0..written])?;
-    }
-    Ok(())
+    let steps = written(rt, fit, Kind::Block { size: 2 }, &mut buffer)?;
+    println!(rt; "a run of the block plan, on a rack of {TRAYS} trays")?;
+    twin(rt, steps)
 }
 
 // The fit of the table.
@@ -257,17 +183,9 @@ fn fitted(values: &[u32]) -> Result<Fit, Refusal> {
     Ok(fit)
 }
 
-fn run_all(rt: &HostRuntime) -> anyhow::Result<()> {
-    println!(rt; "the table 0,1,4,1 modulo {PRIME}^{EXPONENT}")?;
-    match fitted(&[0, 1, 4, 1]) {
-        Ok(fit) => {
-            ladder(rt, &fit)?;
-            block(rt, &fit)
-        }
-        Err(_) => Err(anyhow!("the table was refused")),
-    }
-}
-
 fn main(rt: HostRuntime) -> anyhow::Result<()> {
-    run_all(&rt)
+    println!(rt; "the table 0,1,4,1 modulo {PRIME}^{EXPONENT}")?;
+    let fit = fitted(&[0, 1, 4, 1]).context("the table was refused")?;
+    ladder(&rt, &fit)?;
+    block(&rt, &fit)
 }
