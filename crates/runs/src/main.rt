@@ -17,6 +17,7 @@ use rack::rack::Rack;
 use rack::run::run;
 use rack::tally::Tally;
 use shown::steps::{BLANK, Steps};
+use std::fmt::Display;
 
 // The modulus 2 ^ 3.
 const PRIME: u32 = 2;
@@ -87,12 +88,23 @@ fn run_within<E: Open>(
     Ok(())
 }
 
-// A bare element.
-fn bare(rt: &HostRuntime, steps: &[Step]) -> anyhow::Result<()> {
-    let mut buffer = [Bare::new(0); TRAYS];
-    print!(rt; "  bare, input ")?;
-    let _ = run_on(rt, steps, Bare::new(3), &mut buffer)?;
-    print_trays(rt, &buffer)
+// A run on a rack over the buffer, with no tray out, and the trays after it.
+fn run_alone<E: Open>(
+    rt: &HostRuntime,
+    title: impl Display + Drop,
+    steps: &[Step],
+    input: E,
+    buffer: &mut [E],
+) -> anyhow::Result<()> {
+    print!(rt; "  {title}, input ")?;
+    let _ = run_on(rt, steps, input, buffer)?;
+    print_trays(rt, buffer)
+}
+
+// A twin.
+fn twin(rt: &HostRuntime, steps: &[Step]) -> anyhow::Result<()> {
+    let mut buffer = [Twin::new(0, 0); TRAYS];
+    run_alone(rt, "twin", steps, Twin::new(3, 6), &mut buffer)
 }
 
 // A bare element inside a hold: the run takes the trays above the one that is held.
@@ -103,22 +115,6 @@ fn bare_within(rt: &HostRuntime, steps: &[Step]) -> anyhow::Result<()> {
     let mut rack = Rack::new(&mut buffer);
     run_within(rt, steps, Bare::new(3), &mut rack, &mut tally)?;
     println!(rt; "    tally after the hold {}", tally.out())?;
-    print_trays(rt, &buffer)
-}
-
-// A bare element on a rack that is too short.
-fn bare_on_few(rt: &HostRuntime, steps: &[Step]) -> anyhow::Result<()> {
-    let mut buffer = [Bare::new(0); FEW_TRAYS];
-    print!(rt; "  bare, on a rack of only {FEW_TRAYS} trays, input ")?;
-    let _ = run_on(rt, steps, Bare::new(3), &mut buffer)?;
-    print_trays(rt, &buffer)
-}
-
-// A twin.
-fn twin(rt: &HostRuntime, steps: &[Step]) -> anyhow::Result<()> {
-    let mut buffer = [Twin::new(0, 0); TRAYS];
-    print!(rt; "  twin, input ")?;
-    let _ = run_on(rt, steps, Twin::new(3, 6), &mut buffer)?;
     print_trays(rt, &buffer)
 }
 
@@ -136,12 +132,14 @@ fn levelled(rt: &HostRuntime, steps: &[Step], level: u8) -> anyhow::Result<()> {
 // The steps over each kind of element.
 fn kinds(rt: &HostRuntime, steps: &[Step]) -> anyhow::Result<()> {
     println!(rt; "runs of the ladder, on racks of {TRAYS} trays but for the last")?;
-    bare(rt, steps)?;
+    let bare = Bare::new(3);
+    run_alone(rt, "bare", steps, bare, &mut [Bare::new(0); TRAYS])?;
     twin(rt, steps)?;
     levelled(rt, steps, 2)?;
     levelled(rt, steps, 0)?;
     bare_within(rt, steps)?;
-    bare_on_few(rt, steps)
+    let title = format_args!("bare, on a rack of only {FEW_TRAYS} trays");
+    run_alone(rt, title, steps, bare, &mut [Bare::new(0); FEW_TRAYS])
 }
 
 // Writes the plan of this kind for what stands into the buffer and prints it; answers its steps.
