@@ -159,7 +159,8 @@ mod tests {
             (13, 4),
         ] {
             let n = Modulus::new(p, e)?.value();
-            for list in [&[], &[1], &[0, 0, 1], &[0, 2, 0, 1], &[1; 60]] {
+            let lists: [&[u32]; 5] = [&[], &[1], &[0, 0, 1], &[0, 2, 0, 1], &[1; 60]];
+            for list in lists {
                 check_plans(&rt, p, e, Values { list, n })?;
             }
             let list = &[0, 1];
