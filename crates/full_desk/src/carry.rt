@@ -68,6 +68,7 @@ fn run_part<E: Element>(
 }
 
 // Carries out one use.
+// The fit, the buffer, the rack and the tally stay four parameters: with a struct of the four loans the borrow check does not cover `perform` (four forms were tried), and each contract would have to say of each loan that its lender stays.
 fn perform<E: Element>(
     fit: &mut Fit,
     steps: &mut [Step],

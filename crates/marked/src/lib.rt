@@ -4,21 +4,12 @@
 ghost use Rattle.std.specs.Prelude.{◌≡◌};
 ghost use Rattle.marked.specs.Marked.{Marked, how_many};
 
-// The number of lines of the table of marked examples, of which each is shown to hold.
-// It stands apart from the public function so that a wrong number there is refused at a fact in the code, and not at an answer that no longer fits.
-fn lines() -> usize
-    ensures holds { Marked }
-    ensures value { result ≡ how_many }
-{
-    11
-}
-
 // How many marked examples there are; the contract says that each of them holds.
 pub fn marked_tables() -> usize
     ensures holds { Marked }
     ensures value { result ≡ how_many }
 {
-    lines()
+    11
 }
 
 #[cfg(test)]
