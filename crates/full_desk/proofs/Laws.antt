@@ -1,17 +1,14 @@
 -- The two laws of the book: it leaves nothing open, and the values of a reduced form lead back to it. Assumes nothing.
-use Rattle.std.proofs.Common.{◌≡◌, ℕ, zero, suc, ◌%◌, ◌^◌, ◌<◌, ◌≤◌, List, [], ◌∷◌, ◌++◌, map, length, get_or, take, Ok, Err, Result, sym, refl, ap, ◌∙◌, subst, mod-lt, arith}
-use native.Mathlib.Decide.{dec_lt}
-use Rattle.std.proofs.lemmas.List.{same_from_push, map_push, length_push, length-take, get_or_push, get_or_append_left, get_or-take, get_or_past}
+use Rattle.std.proofs.Common.{◌≡◌, ℕ, zero, suc, ◌%◌, ◌^◌, ◌<◌, ◌≤◌, List, [], ◌∷◌, ◌++◌, map, length, get_or, Ok, Err, Result, sym, refl, ap, ◌∙◌, subst, arith}
+use Rattle.std.proofs.lemmas.List.{same_from_push, map_push, length_push, get_or_push, get_or_append_left}
 use Rattle.modulus.specs.Moduli.{Listed}
-use Rattle.modulus.specs.Bounds.{w}
 use Rattle.modulus.specs.declared.refusal.Refusal.{Refusal}
 use Rattle.modulus.specs.declared.refusal.Refusal.TheVariants.{ShortBuffer}
-use Rattle.modulus.proofs.Bounds.{w-positive, above_one}
 use Rattle.poly.specs.Reduced.{Reduced, Reported, value_at, standing}
 use Rattle.poly.proofs.Points.{below_suc}
-use Rattle.poly.proofs.Standing.{length-standing, standing-same, form_length-past}
-use Rattle.poly.proofs.Reports.{fits-standing, reported, reported-unique}
-use Rattle.fit.specs.Rules.{NoOffer, full, large, unfit, Offered, NoWithdrawal, none}
+use Rattle.poly.proofs.Standing.{length-standing, form_length-past}
+use Rattle.poly.proofs.Reports.{reported, reported-unique}
+use Rattle.fit.specs.Rules.{NoOffer, Offered}
 use Rattle.fit.specs.declared.table.offer.Accepted.{Accepted}
 use Rattle.fit.proofs.Offers.{no_offer_same}
 use Rattle.desk.proofs.Laws.{no_withdrawal_same, accepted-same, offered-same, coefficient-reported, not_refused}

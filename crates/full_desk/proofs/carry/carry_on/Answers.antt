@@ -1,4 +1,4 @@
-use Rattle.std.proofs.Common.{ℕ, ◌+◌, ◌≤◌, length, sym, refl, ap, ◌∙◌, subst}
+use Rattle.std.proofs.Common.{ℕ, ◌+◌, length, refl, ap, ◌∙◌}
 use Rattle.full_desk.proofs.Books.{booked_none}
 use Rattle.full_desk.proofs.Meant.{kinds_all, kinds_more}
 use Rattle.full_desk.proofs.carry.carry_on.Goals as goal
@@ -16,7 +16,7 @@ loop-asked-preserved g c =
     let us = c.args.uses.now in
     let i = c.loop-asked.asked-index in (
       pushed.len ∙ ap (λ (n : ℕ). n + 1) inv.0,
-      subst (λ (n : ℕ). length us ≤ n) (sym pushed.capacity) inv.1,
+      rw pushed.capacity inv.1,
       did.tally ∙ inv.2,
       did.lender ∙ inv.3,
       kinds_more lanes level _ _ c.args.fit.now c.loop-asked.fit c.perform.new.fit c.args.steps.now c.loop-asked.steps c.perform.new.steps _ _ _ us i c.asked-item.result _ _ c.perform.result c.loop-asked-test.true c.asked-item.is inv.4 inv.2 did.due pushed.items,
