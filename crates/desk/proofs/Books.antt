@@ -1,10 +1,11 @@
 -- What the fit's own promises give for the book: one use, and one entry more. Assumes nothing.
-use Rattle.std.proofs.Common.{◌≡◌, ℕ, ◌+◌, ◌^◌, ◌<◌, List, [], ◌∷◌, ◌++◌, length, get_or, take, Ok, Err, Result, sym, refl, ap, ◌∙◌, subst, arith}
+use Rattle.std.proofs.Common.{◌≡◌, ℕ, ◌+◌, ◌<◌, List, [], ◌∷◌, ◌++◌, length, get_or, take, Ok, Err, Result, sym, refl, ap, ◌∙◌, subst, arith}
 use Rattle.std.proofs.lemmas.List.{length_push, take_more}
 use Rattle.modulus.specs.declared.listed.Modulus.{Modulus}
 use Rattle.modulus.specs.declared.refusal.Refusal.{Refusal}
 use Rattle.poly.proofs.Reports.{reported}
-use Rattle.fit.specs.Rules.{NoOffer, full, large, unfit, Offered, NoWithdrawal, none}
+use Rattle.fit.proofs.Offers.{not_both}
+use Rattle.fit.specs.Rules.{Offered, NoWithdrawal, none}
 use Rattle.fit.specs.Standing.{stands}
 use Rattle.fit.specs.declared.table.Fit.{Fit}
 use Rattle.fit.specs.declared.table.offer.Accepted.{Accepted}
@@ -16,15 +17,10 @@ use Rattle.desk.specs.declared.uses.Answer.{Answer}
 use Rattle.desk.specs.declared.uses.Answer.TheVariants.{Stands, Withdrawn}
 
 -- ---- no accepted offer is refused
-not_both : (p e : ℕ) (ys : List ℕ) (y i c : ℕ) (f : Refusal) → Offered p e ys y i c → NoOffer (p ^ e) ys y f → ⊥
-not_both p e ys y i c f h (full all) = omega (arith, h.room)
-not_both p e ys y i c f h (large room big) = omega (arith, h.small)
-not_both p e ys y i c f h (unfit room small never) = never h.fits
-
 offer-not_refused : (s : Sheet) (y i c : ℕ) → Offered s.prime s.exponent s.values y i c → (f : Refusal) → Refuses s (Offer y) f → ⊥
 offer-not_refused s y i c h f (refuses_offer no-offer) = not_both s.prime s.exponent s.values y i c f h no-offer
 
-some_stands : (ys zs : List ℕ) (y : ℕ) (f : Refusal) → ys ≡ zs ++ y ∷ [] → NoWithdrawal ys f → ⊥
+pub some_stands : (ys zs : List ℕ) (y : ℕ) (f : Refusal) → ys ≡ zs ++ y ∷ [] → NoWithdrawal ys f → ⊥
 some_stands ys zs y f e (none empty) = omega (arith, ap length (sym empty ∙ e), length_push zs y)
 
 withdrawal_not_refused : (s : Sheet) (zs : List ℕ) (y : ℕ) → s.values ≡ zs ++ y ∷ [] → (f : Refusal) → Refuses s Withdraw f → ⊥

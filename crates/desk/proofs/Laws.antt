@@ -10,6 +10,7 @@ use Rattle.poly.specs.Reduced.{Reduced, Reported, value_at, standing}
 use Rattle.poly.proofs.Points.{below_suc}
 use Rattle.poly.proofs.Standing.{length-standing, standing-same, form_length-past}
 use Rattle.poly.proofs.Reports.{fits-standing, reported, reported-unique}
+use Rattle.fit.proofs.Offers.{no_offer_same}
 use Rattle.fit.specs.Rules.{NoOffer, full, large, unfit, Offered, NoWithdrawal, none}
 use Rattle.fit.specs.declared.table.offer.Accepted.{Accepted}
 use Rattle.desk.specs.Book.{Sheet, sheet, fresh, Refuses, refuses_offer, refuses_withdrawal, Gives, stands_now, goes, Due, turned_away, answered, Book, closed, entry}
@@ -20,17 +21,6 @@ use Rattle.desk.specs.declared.uses.Answer.{Answer}
 use Rattle.desk.specs.declared.uses.Answer.TheVariants.{Stands, Withdrawn}
 
 -- ---- one refusal for one use
-pub no_offer_same : (m : ℕ) (ys : List ℕ) (y : ℕ) (f g : Refusal) → NoOffer m ys y f → NoOffer m ys y g → f ≡ g
-no_offer_same m ys y f g (full a) (full b) = refl
-no_offer_same m ys y f g (full a) (large b c) = absurd (omega arith)
-no_offer_same m ys y f g (full a) (unfit b c d) = absurd (omega arith)
-no_offer_same m ys y f g (large a b) (full c) = absurd (omega arith)
-no_offer_same m ys y f g (large a b) (large c d) = refl
-no_offer_same m ys y f g (large a b) (unfit c d k) = absurd (omega arith)
-no_offer_same m ys y f g (unfit a b h) (full c) = absurd (omega arith)
-no_offer_same m ys y f g (unfit a b h) (large c d) = absurd (omega arith)
-no_offer_same m ys y f g (unfit a b h) (unfit c d k) = refl
-
 pub no_withdrawal_same : (ys : List ℕ) (f g : Refusal) → NoWithdrawal ys f → NoWithdrawal ys g → f ≡ g
 no_withdrawal_same ys f g (none a) (none b) = refl
 

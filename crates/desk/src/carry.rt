@@ -41,14 +41,12 @@ fn perform(fit: &mut Fit, asked: Use) -> Result<Answer, Refusal>
     ensures { Due (sheet_of fit.old) asked result (sheet_of fit.new) }
 {
     match asked {
-        Use::Offer { value } => match fit.offer(value) {
-            Ok(accepted) => Ok(Answer::Stands { accepted }),
-            Err(refusal) => Err(refusal),
-        },
-        Use::Withdraw => match fit.withdraw() {
-            Ok(value) => Ok(Answer::Withdrawn { value }),
-            Err(refusal) => Err(refusal),
-        },
+        Use::Offer { value } => Ok(Answer::Stands {
+            accepted: fit.offer(value)?,
+        }),
+        Use::Withdraw => Ok(Answer::Withdrawn {
+            value: fit.withdraw()?,
+        }),
     }
 }
 

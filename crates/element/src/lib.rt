@@ -5,4 +5,5 @@ pub mod arith;
 pub mod bare;
 pub mod levelled;
 pub mod rules;
+pub mod show;
 pub mod twin;

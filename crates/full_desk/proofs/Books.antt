@@ -5,11 +5,12 @@ use Rattle.modulus.specs.declared.listed.Modulus.{Modulus}
 use Rattle.modulus.specs.declared.refusal.Refusal.{Refusal}
 use Rattle.poly.proofs.Points.{below_suc}
 use Rattle.poly.proofs.Reports.{reported}
-use Rattle.fit.specs.Rules.{Offered, NoWithdrawal, none}
+use Rattle.fit.specs.Rules.{Offered}
 use Rattle.fit.specs.Standing.{stands}
 use Rattle.fit.specs.declared.table.Fit.{Fit}
 use Rattle.fit.specs.declared.table.offer.Accepted.{Accepted}
 use Rattle.fit.proofs.Offers.{not_both}
+use Rattle.desk.proofs.Books.{some_stands}
 use Rattle.plan.specs.declared.cost.Price.{Price}
 use Rattle.plan.specs.declared.step.Step.{Step}
 use Rattle.planner.specs.Plans.{Issued, NoPlan, no_size, no_room, Planned, Priced}
@@ -25,9 +26,6 @@ use Rattle.full_desk.specs.Desk.{sheet_of, Sound, Performed, Booked, CarriedOut}
 -- ---- no accepted offer is refused
 offer-not_refused : (d : Desk) (y i c : ℕ) → Offered d.sheet.prime d.sheet.exponent d.sheet.values y i c → (f : Refusal) (t : Desk) → Refuses d (offer y) f t → ⊥
 offer-not_refused d y i c h f t (refuses_offer no-offer) = not_both d.sheet.prime d.sheet.exponent d.sheet.values y i c f h no-offer
-
-some_stands : (ys zs : List ℕ) (y : ℕ) (f : Refusal) → ys ≡ zs ++ y ∷ [] → NoWithdrawal ys f → ⊥
-some_stands ys zs y f e (none empty) = omega (arith, ap length (sym empty ∙ e), length_push zs y)
 
 withdrawal_not_refused : (d : Desk) (zs : List ℕ) (y : ℕ) → d.sheet.values ≡ zs ++ y ∷ [] → (f : Refusal) (t : Desk) → Refuses d withdraw f t → ⊥
 withdrawal_not_refused d zs y e f t (refuses_withdrawal h) = some_stands d.sheet.values zs y f e h

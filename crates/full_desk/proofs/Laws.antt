@@ -1,19 +1,17 @@
 -- The two laws of the book: it leaves nothing open, and the values of a reduced form lead back to it. Assumes nothing.
-use Rattle.std.proofs.Common.{◌≡◌, ℕ, zero, suc, ◌%◌, ◌^◌, ◌<◌, ◌≤◌, List, [], ◌∷◌, ◌++◌, map, length, get_or, take, Ok, Err, Result, sym, refl, ap, ◌∙◌, subst, mod-lt, arith}
-use native.Mathlib.Decide.{dec_lt}
-use Rattle.std.proofs.lemmas.List.{same_from_push, map_push, length_push, length-take, get_or_push, get_or_append_left, get_or-take, get_or_past}
+use Rattle.std.proofs.Common.{◌≡◌, ℕ, zero, suc, ◌%◌, ◌^◌, ◌<◌, ◌≤◌, List, [], ◌∷◌, ◌++◌, map, length, get_or, Ok, Err, Result, sym, refl, ap, ◌∙◌, subst, arith}
+use Rattle.std.proofs.lemmas.List.{same_from_push, map_push, length_push, get_or_push, get_or_append_left}
 use Rattle.modulus.specs.Moduli.{Listed}
-use Rattle.modulus.specs.Bounds.{w}
 use Rattle.modulus.specs.declared.refusal.Refusal.{Refusal}
 use Rattle.modulus.specs.declared.refusal.Refusal.TheVariants.{ShortBuffer}
-use Rattle.modulus.proofs.Bounds.{w-positive, above_one}
 use Rattle.poly.specs.Reduced.{Reduced, Reported, value_at, standing}
 use Rattle.poly.proofs.Points.{below_suc}
-use Rattle.poly.proofs.Standing.{length-standing, standing-same, form_length-past}
-use Rattle.poly.proofs.Reports.{fits-standing, reported, reported-unique}
-use Rattle.fit.specs.Rules.{NoOffer, full, large, unfit, Offered, NoWithdrawal, none}
+use Rattle.poly.proofs.Standing.{length-standing, form_length-past}
+use Rattle.poly.proofs.Reports.{reported, reported-unique}
+use Rattle.fit.specs.Rules.{NoOffer, Offered}
 use Rattle.fit.specs.declared.table.offer.Accepted.{Accepted}
 use Rattle.fit.proofs.Offers.{no_offer_same}
+use Rattle.desk.proofs.Laws.{no_withdrawal_same, accepted-same, offered-same, coefficient-reported, not_refused}
 use Rattle.plan.specs.declared.cost.Price.{Price}
 use Rattle.plan.specs.declared.step.Step.{Step}
 use Rattle.planner.specs.Plans.{NoPlan, no_size, no_room, Priced}
@@ -25,9 +23,6 @@ use Rattle.full_desk.specs.Book.{Asked, offer, Told, accepts, withdrew, wrote, r
 use Rattle.full_desk.specs.Law.{Decided, LeadsBack, accepted}
 
 -- ---- one refusal for one use
-pub no_withdrawal_same : (ys : List ℕ) (f g : Refusal) → NoWithdrawal ys f → NoWithdrawal ys g → f ≡ g
-no_withdrawal_same ys f g (none a) (none b) = refl
-
 pub no_plan_same : (p e : ℕ) (ys : List ℕ) (most : ℕ) (kind : Kind) (f g : Refusal) → NoPlan p e ys most kind f → NoPlan p e ys most kind g → f ≡ g
 no_plan_same p e ys most kind f g (no_size a) (no_size b) = refl
 no_plan_same p e ys most kind f g (no_size a) (no_room b c) = absurd (a b.sized)
@@ -45,19 +40,6 @@ refuses-same d u f g t t' (refuses_run {p} {e} {start} {count} {input} {after} a
     (same.0, ap (λ (l : List Meaning). with_trays d l) same.1)
 
 -- ---- one answer for one use
-pub accepted-same : (a b : Accepted) → a.place ≡ b.place → a.coefficient ≡ b.coefficient → a ≡ b
-accepted-same a b i c = ap (λ (k : ℕ). at k a.coefficient) i ∙ ap (λ (k : ℕ). at b.place k) c
-  where
-    at : ℕ → ℕ → Accepted
-    at i c = record { place = i; coefficient = c }
-
-pub offered-same : (p e : ℕ) (ys : List ℕ) (y : ℕ) (a b : Accepted) → Offered p e ys y a.place a.coefficient → Offered p e ys y b.place b.coefficient → a ≡ b
-offered-same p e ys y a b h k =
-    let same : a.place ≡ b.place = h.here ∙ sym k.here in
-    accepted-same a b same
-    (h.reports.2 ∙ reported-unique p e (ys ++ y ∷ []) h.reports.0 k.reports.0 h.reports.1 k.reports.1 a.place
-    ∙ ap (λ (i : ℕ). get_or k.reports.0 i 0) same ∙ sym k.reports.2)
-
 -- the price of a list is what it says
 pub priced_same : (steps : List Step) (a b : Price) → Priced steps a → Priced steps b → a ≡ b
 priced_same steps a b h k =
@@ -137,36 +119,7 @@ pub due_offer : (d : Desk) (y : ℕ) (a : Result Told Refusal) (end : Desk)
 due_offer d y a end h (turned_away {f} (refuses_offer k)) = absurd (h f k)
 due_offer d y a end h (answered l (stands_now {a = x} k)) = (x, k, refl, refl)
 
--- ---- the first coefficients of a reduced form
-pub take-reduced : (p e : ℕ) → Listed p e → (d : List ℕ) → Reduced p e d → (k : ℕ) → Reduced p e (take k d)
-take-reduced p e h d r k i = go (dec_lt i k)
-  where
-    go : Dec (i < k) → get_or (take k d) i 0 < w p e i
-    go (yes l) = subst (λ (x : ℕ). x < w p e i) (sym (get_or-take k d i 0 l)) (r i)
-    go (no l) = subst (λ (x : ℕ). x < w p e i) (sym (get_or_past (take k d) i 0 (simp length-take (omega arith)))) (w-positive p e i h)
-
--- the first k coefficients are what is reported for the first k values
-pub reported-take : (p e : ℕ) → Listed p e → (d : List ℕ) → Reduced p e d → (k : ℕ) → Reported p e (standing (p ^ e) d k) (take k d)
-reported-take p e h d r k =
-    subst (λ (ys : List ℕ). Reported p e ys (take k d)) (standing-same (p ^ e) (take k d) d k (λ i l. get_or-take k d i 0 l))
-    (reported p e h (take k d) k (take-reduced p e h d r k) (λ i l. get_or_past (take k d) i 0 (simp length-take (omega arith))))
-
--- what is reported for the first n + 1 values has d's coefficient in place n
-pub coefficient-reported : (p e : ℕ) → Listed p e → (d : List ℕ) → Reduced p e d → (n : ℕ) (c : List ℕ) → Reported p e (standing (p ^ e) d (suc n)) c
-    → get_or c n 0 ≡ get_or d n 0
-coefficient-reported p e h d r n c k =
-    reported-unique p e (standing (p ^ e) d (suc n)) c (take (suc n) d) k (reported-take p e h d r (suc n)) n ∙ get_or-take (suc n) d n 0 (omega arith)
-
 -- ---- offers of the values of a reduced form
--- no rule refuses the next value
-pub not_refused : (p e : ℕ) → Listed p e → (d : List ℕ) (n : ℕ) → n < p ^ e → (f : Refusal)
-    → NoOffer (p ^ e) (standing (p ^ e) d n) (value_at d n % p ^ e) f → ⊥
-not_refused p e h d n l f (full a) = omega (arith, length-standing (p ^ e) d n)
-not_refused p e h d n l f (large a b) =
-    let positive : 0 < p ^ e = omega (arith, above_one p e h) in
-    omega (arith, mod-lt (value_at d n) positive)
-not_refused p e h d n l f (unfit a b k) = k (fits-standing (p ^ e) d (suc n))
-
 -- a desk with the first n values of d
 abbrev holding : ℕ → ℕ → List ℕ → ℕ → List Step → ℕ → List Meaning → Desk
 holding p e d n steps out trays = desk (sheet p e (standing (p ^ e) d n) []) steps out trays

@@ -12,7 +12,7 @@ use Rattle.full_desk.specs.Desk.{Booked, Performed}
 use Rattle.full_desk.specs.Kinds.{asked_of, askings, told_of, tellings}
 use Rattle.full_desk.specs.declared.uses.Use.{Use}
 use Rattle.full_desk.specs.declared.uses.Answer.{Answer}
-use Rattle.full_desk.proofs.Books.{booked_more, booked_none}
+use Rattle.full_desk.proofs.Books.{booked_more}
 
 module _ {A : Type 0} (lanes : A → List ℕ) (level : A → Level) where
   -- every tray has as many lanes as the kind
@@ -22,11 +22,6 @@ module _ {A : Type 0} (lanes : A → List ℕ) (level : A → Level) where
   wide_rack width wide (x ∷ xs) (suc t) within = wide_rack width wide xs t (omega arith)
 
   -- ---- a walk over the list of uses
-  pub kinds_none : (out : ℕ) (f : Fit) (steps : List Step) (trays : List Meaning) (answers : List (Result (Answer A) Refusal)) → answers ≡ []
-      → Booked out f steps trays [] (tellings lanes level answers) f steps trays
-  kinds_none out f steps trays answers is =
-      subst (λ (bs : List (Result (Answer A) Refusal)). Booked out f steps trays [] (tellings lanes level bs) f steps trays) (sym is) (booked_none out f steps trays)
-
   pub kinds_more : (out here : ℕ) (f g h : Fit) (xs ys zs : List Step) (trays mid end : List Meaning) (us : List (Use A)) (i : ℕ) (u : Use A) (answers answers' : List (Result (Answer A) Refusal)) (a : Result (Answer A) Refusal)
       → i < length us → u ≡ get_or us i u → Booked out f xs trays (askings lanes level (take i us)) (tellings lanes level answers) g ys mid
       → here ≡ out → Performed here g ys mid (asked_of lanes level u) (told_of lanes level a) h zs end → answers' ≡ answers ++ a ∷ []

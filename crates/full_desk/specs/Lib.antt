@@ -2,4 +2,3 @@ pub mod Book
 pub mod Kinds
 pub mod Desk
 pub mod Law
-pub mod Stops

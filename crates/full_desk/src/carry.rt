@@ -1,17 +1,17 @@
 // Uses carried out one after the other.
-ghost use Rattle.std.specs.Prelude.{◌≡◌, ◌≤◌, List, [], length, vec_capacity, MatchResult};
+ghost use Rattle.std.specs.Prelude.{◌≡◌, ◌+◌, ◌-◌, ◌≤◌, List, [], length, min, vec_capacity, MatchResult};
 ghost use Rattle.full_desk.specs.Book.{begins, part, room, written};
 ghost use Rattle.full_desk.specs.Desk.{Booked, CarriedOut, Performed};
 ghost use Rattle.full_desk.specs.Kinds.{asked_of, askings, told_of, tellings};
 ghost use Rattle.full_desk.specs.Law.{Decided, LeadsBack};
-ghost use Rattle.full_desk.specs.Stops.{Stops};
-ghost use Rattle.full_desk.specs.declared.carry.Stopped.TheVariants.{NoMemory, Refused};
+ghost use Rattle.desk.specs.Stops.{Stops};
 ghost use Rattle.fit.specs.Standing.{stands};
 ghost use Rattle.plan.specs.declared.step.Step.{Step as StepOf};
 ghost use Rattle.planner.specs.Plans.{Issued, NoPlan, Priced};
 ghost use Rattle.rack.specs.Runs.{NoRun, Runs, meaning_of, meanings};
 
 use crate::uses::{Answer, Use};
+use desk::carry::Stopped;
 use element::rules::Element;
 use fit::table::Fit;
 use modulus::refusal::Refusal;
@@ -22,31 +22,16 @@ use planner::kind::Kind;
 use rack::rack::Rack;
 use rack::run::run;
 use rack::tally::Tally;
-use std::alloc::{AllocError, Global};
+use std::alloc::Global;
+use std::ops::Range;
 
-// Why a list of uses was not begun.
-#[derive(Clone, Copy, Debug)]
-pub enum Stopped {
-    // The fit could not be opened.
-    Refused { refusal: Refusal },
-    // There was no memory for the answers.
-    NoMemory,
-}
-
-impl From<AllocError> for Stopped {
-    ghost from_gives = { λ _ r. r ≡ NoMemory };
-
-    fn from(_error: AllocError) -> Stopped {
-        Stopped::NoMemory
-    }
-}
-
-impl From<Refusal> for Stopped {
-    ghost from_gives = { λ f r. r ≡ Refused f };
-
-    fn from(refusal: Refusal) -> Stopped {
-        Stopped::Refused { refusal }
-    }
+// The places of a part of a buffer of this length, as far as the buffer goes.
+fn part_of(length: usize, start: usize, count: usize) -> Range<usize>
+    ensures start { result.start ≡ min start length }
+    ensures end { result.end ≡ result.start + min count (length - result.start) }
+{
+    let from = start.min(length);
+    from..from + count.min(length - from)
 }
 
 // Writes a plan for what stands in the fit into a part of the buffer.
@@ -59,9 +44,8 @@ fn plan_part(
 ) -> Result<Price, Refusal>
     ensures { MatchResult result (λ price. (made : List StepOf) × Issued fit.now.modulus.prime fit.now.modulus.exponent (stands fit.now) kind made × Priced made price × (length made ≤ room steps.old start count) × (steps.new ≡ written steps.old (begins steps.old start) made)) (λ f. NoPlan fit.now.modulus.prime fit.now.modulus.exponent (stands fit.now) (room steps.old start count) kind f × (steps.new ≡ steps.old)) }
 {
-    let from = start.min(steps.len());
-    let most = count.min(steps.len() - from);
-    plan(fit, kind, &mut steps[from..from + most])
+    let part = part_of(steps.len(), start, count);
+    plan(fit, kind, &mut steps[part])
 }
 
 // Runs a part of the buffer.
@@ -79,12 +63,12 @@ fn run_part<E: Element>(
     ensures lender { rack.new.trays.ghost_name ≡ rack.old.trays.ghost_name }
     ensures cases { MatchResult result (λ x. Runs p e (part steps.now start count) tally.old.out (meanings E.Element.lanes E.Element.level rack.old.trays.now) (meaning_of E.Element.lanes E.Element.level input) (meaning_of E.Element.lanes E.Element.level x) (meanings E.Element.lanes E.Element.level rack.new.trays.now)) (λ f. NoRun p e (part steps.now start count) tally.old.out (meanings E.Element.lanes E.Element.level rack.old.trays.now) (meaning_of E.Element.lanes E.Element.level input) f (meanings E.Element.lanes E.Element.level rack.new.trays.now)) }
 {
-    let from = start.min(steps.len());
-    let most = count.min(steps.len() - from);
-    run(p, e, &steps[from..from + most], input, rack, tally)
+    let part = part_of(steps.len(), start, count);
+    run(p, e, &steps[part], input, rack, tally)
 }
 
 // Carries out one use.
+// The fit, the buffer, the rack and the tally stay four parameters: with a struct of the four loans the borrow check does not cover `perform` (four forms were tried), and each contract would have to say of each loan that its lender stays.
 fn perform<E: Element>(
     fit: &mut Fit,
     steps: &mut [Step],
@@ -97,28 +81,24 @@ fn perform<E: Element>(
     ensures due { Performed tally.old.out fit.old steps.old (meanings E.Element.lanes E.Element.level rack.old.trays.now) (asked_of E.Element.lanes E.Element.level asked) (told_of E.Element.lanes E.Element.level result) fit.new steps.new (meanings E.Element.lanes E.Element.level rack.new.trays.now) }
 {
     match asked {
-        Use::Offer { value } => match fit.offer(value) {
-            Ok(accepted) => Ok(Answer::Stands { accepted }),
-            Err(refusal) => Err(refusal),
-        },
-        Use::Withdraw => match fit.withdraw() {
-            Ok(value) => Ok(Answer::Withdrawn { value }),
-            Err(refusal) => Err(refusal),
-        },
-        Use::Plan { kind, start, count } => match plan_part(fit, steps, kind, start, count) {
-            Ok(price) => Ok(Answer::Written { price }),
-            Err(refusal) => Err(refusal),
-        },
+        Use::Offer { value } => Ok(Answer::Stands {
+            accepted: fit.offer(value)?,
+        }),
+        Use::Withdraw => Ok(Answer::Withdrawn {
+            value: fit.withdraw()?,
+        }),
+        Use::Plan { kind, start, count } => Ok(Answer::Written {
+            price: plan_part(fit, steps, kind, start, count)?,
+        }),
         Use::Run {
             p,
             e,
             start,
             count,
             input,
-        } => match run_part(steps, p, e, start, count, input, rack, tally) {
-            Ok(element) => Ok(Answer::Ran { element }),
-            Err(refusal) => Err(refusal),
-        },
+        } => Ok(Answer::Ran {
+            element: run_part(steps, p, e, start, count, input, rack, tally)?,
+        }),
     }
 }
 

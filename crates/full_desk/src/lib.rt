@@ -2,4 +2,5 @@
 #![tactic(auto)]
 
 pub mod carry;
+mod show;
 pub mod uses;

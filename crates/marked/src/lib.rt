@@ -4,26 +4,18 @@
 ghost use Rattle.std.specs.Prelude.{◌≡◌};
 ghost use Rattle.marked.specs.Marked.{Marked, how_many};
 
-// The number of lines of the table of marked examples, of which each is shown to hold.
-fn lines() -> usize
+// How many marked examples there are; the contract says that each of them holds.
+pub fn marked_tables() -> usize
     ensures holds { Marked }
     ensures value { result ≡ how_many }
 {
     11
 }
 
-// How many marked examples there are; the contract says that each of them holds.
-pub fn marked_tables() -> usize
-    ensures holds { Marked }
-    ensures value { result ≡ how_many }
-{
-    lines()
-}
-
 #[cfg(test)]
 mod tests {
     use fit::table::Fit;
-    use modulus::count::count;
+    use modulus::count::{Counts, count};
     use modulus::listed::{Modulus, PLACES};
     use modulus::refusal::Refusal;
     use plan::check::{first_bad, trays};
@@ -36,12 +28,10 @@ mod tests {
     use std::process::Abort;
     use std::test::Fail;
 
-    // What opening a fit with the modulus p ^ e is met by, as a number; 0 where it opens.
-    fn opening(p: u32, e: u32) -> u8 {
-        match Fit::new().open(p, e) {
-            Ok(()) => 0,
-            Err(refusal) => refusal.number(),
-        }
+    // The number of the refusal to open a fit with the modulus p ^ e; none where it opens.
+    fn opening(p: u32, e: u32) -> Option<u8> {
+        let opened = Fit::new().open(p, e);
+        opened.err().map(|refusal| refusal.number())
     }
 
     #[test]
@@ -57,7 +47,7 @@ mod tests {
             (2, 1),
             (17, 1),
         ] {
-            assert_eq!(rt; opening(p, e), 0);
+            assert_eq!(rt; opening(p, e), None);
         }
     }
 
@@ -74,76 +64,57 @@ mod tests {
             (19, 1),
             (4294967295, 4294967295),
         ] {
-            assert_eq!(rt; opening(p, e), 1);
+            assert_eq!(rt; opening(p, e), Some(1));
         }
     }
 
     #[test]
-    fn wide_values_are_refused(rt: HostRuntime) -> Result<(), Fail> {
+    fn wide_values_are_refused(rt: HostRuntime) {
         let mut fit = Fit::new();
         assert!(rt; fit.open(2, 16).is_ok());
         for value in [65536, 65537, 99999, 4294967295] {
-            match fit.offer(value) {
-                Ok(_) => return Err(Fail::new("accepted")),
-                Err(refusal) => assert_eq!(rt; refusal, Refusal::TooLarge { place: 0 }),
-            }
+            assert_eq!(rt; fit.offer(value), Err(Refusal::TooLarge { place: 0 }));
         }
         assert!(rt; fit.offer(65535).is_ok());
-        Ok(())
     }
 
     #[test]
-    fn short_buffers_are_refused(rt: HostRuntime) -> Result<(), Fail> {
+    fn short_buffers_are_refused(rt: HostRuntime) {
         let mut fit = Fit::new();
         assert!(rt; fit.open(3, 2).is_ok());
         for value in [0, 1, 2, 0] {
             assert!(rt; fit.offer(value).is_ok());
         }
         let mut buffer = [7u16; PLACES];
-        match fit.report(&mut buffer[0..3]) {
-            Ok(_) => return Err(Fail::new("written")),
-            Err(refusal) => assert_eq!(rt; refusal, Refusal::ShortBuffer { needed: 4 }),
-        }
+        let short = fit.report(&mut buffer[..3]);
+        assert_eq!(rt; short, Err(Refusal::ShortBuffer { needed: 4 }));
         assert_eq!(rt; buffer[0], 7);
         assert!(rt; fit.report(&mut buffer).is_ok());
-        assert_eq!(rt;
-            [buffer[0], buffer[1], buffer[2], buffer[3], buffer[4]],
-            [0, 1, 0, 1, 7]
-        );
-        Ok(())
+        assert_eq!(rt; &buffer[..5], [0, 1, 0, 1, 7].as_slice());
     }
 
     // The value at x, modulo m, of the polynomial with these coefficients in powers of X.
     fn value(list: &[u32], x: u64, m: u64) -> u64 {
-        let mut value = 0u64;
-        for c in list.iter().rev() {
-            value = value
+        list.iter().rev().fold(0, |value: u64, c| {
+            value
                 .wrapping_mul(x)
                 .wrapping_add(u64::from(*c))
                 .checked_rem(m)
-                .unwrap_or(0);
-        }
-        value
+                .unwrap_or(0)
+        })
     }
 
     // Whether the reduced form of the list has its values at every whole number below the modulus.
     fn reduces(rt: &impl Abort, p: u32, e: u32, list: &[u32]) -> Result<(), Fail> {
-        let Ok(modulus) = Modulus::new(p, e) else {
-            return Err(Fail::new("not listed"));
-        };
+        let modulus = Modulus::new(p, e)?;
         let mut reduced = [0u16; PLACES];
-        let Ok(length) = reduce(p, e, list, &mut reduced) else {
-            return Err(Fail::new("refused"));
-        };
-        assert!(rt; length <= PLACES);
+        let length = reduce(p, e, list, &mut reduced)?;
         for x in 0..modulus.value() {
-            if x < 65536 {
-                let form = evaluate(&modulus, &reduced[0..length], x as u16);
-                assert_eq!(rt;
-                    u64::from(form),
-                    value(list, u64::from(x), u64::from(modulus.value()))
-                );
-            }
+            let form = evaluate(&modulus, &reduced[..length], x as u16);
+            assert_eq!(rt;
+                u64::from(form),
+                value(list, u64::from(x), u64::from(modulus.value()))
+            );
         }
         Ok(())
     }
@@ -180,30 +151,30 @@ mod tests {
     fn lists_are_refused_in_order(rt: HostRuntime) {
         let long = [9u32; 65];
         let mut out = [5u16; 3];
-        assert_eq!(rt; refusal_of(reduce(4, 1, &long, &mut out)), (1, 0));
-        assert_eq!(rt; refusal_of(reduce(2, 3, &long, &mut out)), (7, 65));
-        assert_eq!(rt; refusal_of(reduce(2, 3, &[1, 7, 8, 9], &mut out)), (2, 2));
-        assert_eq!(rt; refusal_of(reduce(2, 3, &[1, 7], &mut out)), (6, 4));
-        assert_eq!(rt; refusal_of(null(2, 3, 64, &mut out)), (7, 64));
-        assert_eq!(rt; refusal_of(null(2, 3, 3, &mut out)), (6, 4));
+        assert_eq!(rt; refusal_of(reduce(4, 1, &long, &mut out)), Some((1, 0)));
+        assert_eq!(rt; refusal_of(reduce(2, 3, &long, &mut out)), Some((7, 65)));
+        assert_eq!(rt;
+            refusal_of(reduce(2, 3, &[1, 7, 8, 9], &mut out)),
+            Some((2, 2))
+        );
+        assert_eq!(rt; refusal_of(reduce(2, 3, &[1, 7], &mut out)), Some((6, 4)));
+        assert_eq!(rt; refusal_of(null(2, 3, 64, &mut out)), Some((7, 64)));
+        assert_eq!(rt; refusal_of(null(2, 3, 3, &mut out)), Some((6, 4)));
         assert_eq!(rt; out[0], 5);
         assert_eq!(rt; null(2, 3, 2, &mut out).is_ok(), true);
         assert_eq!(rt; out, [0, 4, 4]);
     }
 
-    // A refusal's number and place; 0 and 0 where nothing was refused.
-    fn refusal_of(answer: Result<usize, Refusal>) -> (u8, usize) {
-        match answer {
-            Ok(_) => (0, 0),
-            Err(refusal) => (refusal.number(), refusal.place()),
-        }
+    // The number and the place of the refusal; none where there is an answer.
+    fn refusal_of(answer: Result<usize, Refusal>) -> Option<(u8, usize)> {
+        answer
+            .err()
+            .map(|refusal| (refusal.number(), refusal.place()))
     }
 
     #[test]
     fn step_160_is_bad(rt: HostRuntime) -> Result<(), Fail> {
-        let Ok(modulus) = Modulus::new(2, 3) else {
-            return Err(Fail::new("not listed"));
-        };
+        let modulus = Modulus::new(2, 3)?;
         let steps = [Step {
             op: Op::Shift,
             to: 1,
@@ -220,29 +191,21 @@ mod tests {
 
     #[test]
     fn comparisons(rt: HostRuntime) {
-        assert!(rt; told(alike(2, 2, &[0, 1], &[0, 3, 2])) == 1);
-        assert!(rt; told(alike(3, 2, &[0, 1], &[0, 0, 0, 1])) == 0);
-        assert!(rt; told(alike(3, 2, &[0, 9], &[9; 65])) == 2);
-        assert!(rt; told(alike(3, 2, &[0, 1], &[9; 65])) == 7);
+        assert_eq!(rt; told(alike(2, 2, &[0, 1], &[0, 3, 2])), Ok(true));
+        assert_eq!(rt; told(alike(3, 2, &[0, 1], &[0, 0, 0, 1])), Ok(false));
+        assert_eq!(rt; told(alike(3, 2, &[0, 9], &[9; 65])), Err(2));
+        assert_eq!(rt; told(alike(3, 2, &[0, 1], &[9; 65])), Err(7));
     }
 
-    // 1 for alike, 0 for not alike, or the refusal's number.
-    fn told(answer: Result<bool, Refusal>) -> u8 {
-        match answer {
-            Ok(true) => 1,
-            Ok(false) => 0,
-            Err(refusal) => refusal.number(),
-        }
+    // Whether two lists are alike, or the refusal's number.
+    fn told(answer: Result<bool, Refusal>) -> Result<bool, u8> {
+        answer.map_err(|refusal| refusal.number())
     }
 
     #[test]
     fn counts(rt: HostRuntime) -> Result<(), Fail> {
-        match count(2, 8) {
-            Ok(c) => {
-                assert!(rt; c.mu == 10 && c.digits == 50);
-                Ok(())
-            },
-            Err(_) => Err(Fail::new("refused")),
-        }
+        let expected = Counts { mu: 10, digits: 50 };
+        assert_eq!(rt; count(2, 8)?, expected);
+        Ok(())
     }
 }

@@ -4,4 +4,5 @@
 pub mod count;
 pub mod listed;
 pub mod refusal;
+mod show;
 pub mod units;

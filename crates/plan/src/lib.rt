@@ -3,4 +3,5 @@
 
 pub mod check;
 pub mod cost;
+mod show;
 pub mod step;

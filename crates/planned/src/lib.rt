@@ -24,18 +24,31 @@ mod tests {
         k: 65535,
     };
 
-    // The value at x, modulo m, of the polynomial with these coefficients in powers of X. Nothing wraps: x and m are at most 65,536.
-    fn value(list: &[u32], x: u32, m: u32) -> u32 {
-        let mut value = 0u32;
-        for c in list.iter().rev() {
-            value = value
-                .wrapping_mul(x)
-                .wrapping_add(*c)
-                .checked_rem(m)
-                .unwrap_or(0);
-        }
-        value
+    // The values modulo n of the polynomial with these coefficients in powers of X.
+    #[derive(Clone, Copy)]
+    struct Values<'a> {
+        list: &'a [u32],
+        n: u32,
     }
+
+    impl Values<'_> {
+        // The value at x. Nothing wraps: x and n are at most 65,536.
+        fn at(&self, x: u32) -> u32 {
+            self.list.iter().rev().fold(0, |value: u32, c| {
+                value
+                    .wrapping_mul(x)
+                    .wrapping_add(*c)
+                    .checked_rem(self.n)
+                    .unwrap_or(0)
+            })
+        }
+    }
+
+    // The squares modulo 8.
+    const SQUARES: Values<'static> = Values {
+        list: &[0, 0, 1],
+        n: 8,
+    };
 
     // What the steps answer modulo m for the input x, which tray 0 has: what the last of them writes.
     fn run(m: u32, steps: &[Step], x: u32) -> u32 {
@@ -58,50 +71,41 @@ mod tests {
         answer
     }
 
-    // A fit with the modulus p ^ e, to which the values of the list modulo n were offered until one was refused, at most this many.
-    fn fitted(p: u32, e: u32, list: &[u32], n: u32, most: u32) -> Result<Fit, Fail> {
+    // A fit with the modulus p ^ e, to which the values were offered until one was refused, at most this many.
+    fn fitted(p: u32, e: u32, values: Values<'_>, most: u32) -> Result<Fit, Fail> {
         let mut fit = Fit::new();
         fit.open(p, e)?;
         for x in 0..most {
-            if fit.offer(value(list, x, n)).is_err() {
+            if fit.offer(values.at(x)).is_err() {
                 break;
             }
         }
         Ok(fit)
     }
 
-    // At x the steps answer the value of the fit's form; below the number of standing values, that is the one of the list modulo n.
-    fn check_answer(rt: &impl Abort, fit: &Fit, steps: &[Step], list: &[u32], n: u32, x: u16) {
+    // At x the steps answer the value of the fit's form; below the number of standing values, that is the one in this place.
+    fn check_answer(rt: &impl Abort, fit: &Fit, steps: &[Step], values: Values<'_>, x: u16) {
         let modulus = fit.modulus();
         let place = u32::from(x);
         let answer = run(modulus.value(), steps, place);
         assert_eq!(rt; answer, evaluate(&modulus, &fit.form(), x));
-        assert!(rt; place >= fit.count() || answer == value(list, place, n));
+        assert!(rt; place >= fit.count() || answer == values.at(place));
     }
 
     // The plan of this kind for the fit: what is written, what it costs, what it answers, and a buffer that is too short for it.
     // A modulus up to 256 has every number below it run, and it and the next one too.
-    fn check_plan(
-        rt: &impl Abort,
-        fit: &Fit,
-        kind: Kind,
-        list: &[u32],
-        n: u32,
-    ) -> Result<(), Fail> {
+    fn check_plan(rt: &impl Abort, fit: &Fit, kind: Kind, values: Values<'_>) -> Result<(), Fail> {
         let mut buffer = [FILL; STEPS];
         let price = plan(fit, kind, &mut buffer)?;
-        assert!(rt; price.steps <= STEPS);
-        let steps = &buffer[0..price.steps];
+        let steps = &buffer[..price.steps];
         assert!(rt; first_bad(&fit.modulus(), steps).is_none());
         assert_eq!(rt; cost(steps)?, price);
-        for s in steps {
-            assert!(rt; s.to != 0);
-        }
-        assert!(rt; is_filled(&buffer[price.steps..STEPS]));
+        assert!(rt; steps.iter().all(|s| s.to != 0));
+        assert!(rt; is_filled(&buffer[price.steps..]));
         for x in 0..258 {
-            check_answer(rt, fit, steps, list, n, x);
+            check_answer(rt, fit, steps, values, x);
         }
-        check_answer(rt, fit, steps, list, n, 65535);
+        check_answer(rt, fit, steps, values, 65535);
         check_short(rt, fit, kind, price.steps);
         Ok(())
     }
@@ -110,36 +114,30 @@ mod tests {
     fn check_short(rt: &impl Abort, fit: &Fit, kind: Kind, needed: usize) {
         let mut buffer = [FILL; STEPS];
         assert!(rt; needed >= 1 && needed <= STEPS);
-        let short = &mut buffer[0..needed - 1];
-        assert_eq!(rt; refused(fit, kind, short), (6, needed));
+        let short = &mut buffer[..needed - 1];
+        assert_eq!(rt; refused(fit, kind, short), Some((6, needed)));
         assert!(rt; is_filled(short));
     }
 
     // Whether every step of the buffer is still the one that it was filled with.
     fn is_filled(buffer: &[Step]) -> bool {
-        for s in buffer {
-            if *s != FILL {
-                return false;
-            }
-        }
-        true
+        buffer.iter().all(|s| *s == FILL)
     }
 
-    // The number and the place of the refusal of a plan; 0 and 0 where it is written.
-    fn refused(fit: &Fit, kind: Kind, buffer: &mut [Step]) -> (u8, usize) {
-        match plan(fit, kind, buffer) {
-            Ok(_) => (0, 0),
-            Err(refusal) => (refusal.number(), refusal.place()),
-        }
+    // The number and the place of the refusal of a plan; none where it is written.
+    fn refused(fit: &Fit, kind: Kind, buffer: &mut [Step]) -> Option<(u8, usize)> {
+        plan(fit, kind, buffer)
+            .err()
+            .map(|refusal| (refusal.number(), refusal.place()))
     }
 
-    // Every plan for the values of the list modulo n, with none, a few and as many as stand.
-    fn check_plans(rt: &impl Abort, p: u32, e: u32, list: &[u32], n: u32) -> Result<(), Fail> {
+    // Every plan for the values, with none, a few and as many as stand.
+    fn check_plans(rt: &impl Abort, p: u32, e: u32, values: Values<'_>) -> Result<(), Fail> {
         for most in [0, 1, 2, 5, 65536] {
-            let fit = fitted(p, e, list, n, most)?;
-            check_plan(rt, &fit, Kind::Ladder, list, n)?;
-            for size in 1..LARGEST_BLOCK + 1 {
-                check_plan(rt, &fit, Kind::Block { size }, list, n)?;
+            let fit = fitted(p, e, values, most)?;
+            check_plan(rt, &fit, Kind::Ladder, values)?;
+            for size in 1..=LARGEST_BLOCK {
+                check_plan(rt, &fit, Kind::Block { size }, values)?;
             }
         }
         Ok(())
@@ -160,20 +158,20 @@ mod tests {
             (13, 2),
             (13, 4),
         ] {
-            let m = Modulus::new(p, e)?.value();
-            check_plans(&rt, p, e, &[], m)?;
-            check_plans(&rt, p, e, &[1], m)?;
-            check_plans(&rt, p, e, &[0, 0, 1], m)?;
-            check_plans(&rt, p, e, &[0, 2, 0, 1], m)?;
-            check_plans(&rt, p, e, &[1; 60], m)?;
-            check_plans(&rt, p, e, &[0, 1], p)?;
+            let n = Modulus::new(p, e)?.value();
+            let lists: [&[u32]; 5] = [&[], &[1], &[0, 0, 1], &[0, 2, 0, 1], &[1; 60]];
+            for list in lists {
+                check_plans(&rt, p, e, Values { list, n })?;
+            }
+            let list = &[0, 1];
+            check_plans(&rt, p, e, Values { list, n: p })?;
         }
         Ok(())
     }
 
     #[test]
     fn plans_of_a_square_cost(rt: HostRuntime) -> Result<(), Fail> {
-        let fit = fitted(2, 3, &[0, 0, 1], 8, 4)?;
+        let fit = fitted(2, 3, SQUARES, 4)?;
         let mut buffer = [FILL; STEPS];
         assert_eq!(rt;
             plan(&fit, Kind::Ladder, &mut buffer)?,
@@ -196,11 +194,17 @@ mod tests {
 
     #[test]
     fn other_sizes_are_refused(rt: HostRuntime) -> Result<(), Fail> {
-        let fit = fitted(2, 3, &[0, 0, 1], 8, 4)?;
+        let fit = fitted(2, 3, SQUARES, 4)?;
         for size in [0, 9] {
             let mut buffer = [FILL; STEPS];
-            assert_eq!(rt; refused(&fit, Kind::Block { size }, &mut buffer), (7, size));
-            assert_eq!(rt; refused(&fit, Kind::Block { size }, &mut []), (7, size));
+            assert_eq!(rt;
+                refused(&fit, Kind::Block { size }, &mut buffer),
+                Some((7, size))
+            );
+            assert_eq!(rt;
+                refused(&fit, Kind::Block { size }, &mut []),
+                Some((7, size))
+            );
             assert!(rt; is_filled(&buffer));
         }
         Ok(())

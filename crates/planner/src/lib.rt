@@ -6,3 +6,4 @@ mod draft;
 pub mod issue;
 pub mod kind;
 mod ladder;
+mod show;

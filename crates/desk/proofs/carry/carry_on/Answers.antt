@@ -1,27 +1,15 @@
-use Rattle.std.proofs.Common.{ℕ, ◌+◌, ◌≤◌, List, [], length, vec_items, Result, sym, ap, ◌∙◌, subst}
-use Rattle.std.proofs.lemmas.List.{take_all}
-use Rattle.modulus.specs.declared.refusal.Refusal.{Refusal}
-use Rattle.desk.specs.Book.{Book, closed}
+use Rattle.std.proofs.Common.{ℕ, ◌+◌, length, vec_items, ap, ◌∙◌}
+use Rattle.desk.specs.Book.{closed}
 use Rattle.desk.specs.Desk.{sheet_of}
-use Rattle.desk.specs.declared.uses.Answer.{Answer}
-use Rattle.desk.specs.declared.uses.Use.{Use}
 use Rattle.desk.specs.declared.uses.Use.TheVariants.{Offer}
 use Rattle.desk.proofs.Books.{book-step}
 use Rattle.desk.proofs.carry.carry_on.Goals as goal
 
 pub loop-asked-init : goal.loop-asked-init
-loop-asked-init c =
-    let v = c.args.answers.now in
-    let s = sheet_of c.args.fit.now in
-    (v.ok.0 ∙ ap length c.requires.none, c.requires.room, subst (λ (answers : List (Result Answer Refusal)). Book s [] answers s) (sym c.requires.none) closed)
+loop-asked-init c = (c.args.answers.now.ok.0 ∙ ap length c.requires.none, c.requires.room, rw c.requires.none closed)
 
 pub loop-asked-preserved : goal.loop-asked-preserved
 loop-asked-preserved c =
     let inv = c.loop-asked.invariant in
     let pushed = c.push_reserved.ensures in
-    (pushed.len ∙ ap (λ (n : ℕ). n + 1) inv.0, subst (λ (n : ℕ). length c.args.uses.now ≤ n) (sym pushed.capacity) inv.1, book-step (sheet_of c.args.fit.now) (sheet_of c.loop-asked.fit) (sheet_of c.perform.new.fit) c.args.uses.now c.loop-asked.asked-index (Offer 0) (vec_items c.loop-asked.answers) (vec_items c.push_reserved.new.self) c.perform.result c.loop-asked-test.true inv.2 c.perform.ensures pushed.items)
-
-pub returns : goal.returns
-returns c =
-    subst (λ (us : List Use). Book (sheet_of c.args.fit.now) us (vec_items c.loop-asked.answers) (sheet_of c.loop-asked.fit))
-    (take_all c.loop-asked.asked-index c.args.uses.now c.loop-asked-test.false) c.loop-asked.invariant.2
+    (pushed.len ∙ ap (λ (n : ℕ). n + 1) inv.0, rw pushed.capacity inv.1, book-step (sheet_of c.args.fit.now) (sheet_of c.loop-asked.fit) (sheet_of c.perform.new.fit) c.args.uses.now c.loop-asked.asked-index (Offer 0) (vec_items c.loop-asked.answers) (vec_items c.push_reserved.new.self) c.perform.result c.loop-asked-test.true inv.2 c.perform.ensures pushed.items)

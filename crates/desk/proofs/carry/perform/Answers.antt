@@ -1,39 +1,26 @@
-use Rattle.std.proofs.Common.{Ok, Err, sym, subst}
-use Rattle.desk.specs.Book.{Due, refuses_offer, refuses_withdrawal}
-use Rattle.desk.specs.Desk.{sheet_of}
-use Rattle.desk.specs.declared.uses.Use.{Use}
-use Rattle.desk.specs.declared.uses.Answer.TheVariants.{Stands, Withdrawn}
+use Rattle.std.proofs.lemmas.Result.{err_from_is_err_and}
+use Rattle.desk.specs.Book.{refuses_offer, refuses_withdrawal}
 use Rattle.desk.proofs.Books.{offer-due, withdrawal_due, refused-due}
 use Rattle.desk.proofs.carry.perform.Goals as goal
 
-pub returns-in-Ok : goal.returns-in-Ok
-returns-in-Ok c =
-    let got = c.in-Ok.ensures in
-    let f = c.args.fit.now in
-    let g = c.offer.new.self in
-    subst (λ (u : Use). Due (sheet_of f) u (Ok (Stands c.in-Ok.accepted)) (sheet_of g)) (sym c.in-Offer.is)
-    (offer-due f g c.in-Offer.value c.in-Ok.accepted got.modulus got.cases.0 got.cases.1)
+pub returns-in_err-offer-in-Offer : goal.returns-in_err-offer-in-Offer
+returns-in_err-offer-in-Offer c =
+    let p = err_from_is_err_and c.from_residual.result c.from_residual.ensures.1 in
+    let no = c.in_err-offer-in-Offer.ensures.cases in
+    rw (c.in-Offer.is, p.1, p.2) (refused-due c.args.fit.now c.offer.new.self _ _ no.1 (refuses_offer no.0))
 
-pub returns-in-Err : goal.returns-in-Err
-returns-in-Err c =
-    let got = c.in-Err.ensures in
-    let f = c.args.fit.now in
-    let g = c.offer.new.self in
-    subst (λ (u : Use). Due (sheet_of f) u (Err c.in-Err.refusal) (sheet_of g)) (sym c.in-Offer.is)
-    (refused-due f g _ c.in-Err.refusal got.cases.1 (refuses_offer got.cases.0))
+pub returns-in_err-withdraw-in-Withdraw : goal.returns-in_err-withdraw-in-Withdraw
+returns-in_err-withdraw-in-Withdraw c =
+    let p = err_from_is_err_and c.from_residual-in_err-withdraw-in-Withdraw.result c.from_residual-in_err-withdraw-in-Withdraw.ensures.1 in
+    let no = c.in_err-withdraw-in-Withdraw.ensures.cases in
+    rw (c.in-Withdraw.is, p.1, p.2) (refused-due c.args.fit.now c.withdraw.new.self _ _ no.1 (refuses_withdrawal no.0))
 
-pub returns-in-Ok-withdraw : goal.returns-in-Ok-withdraw
-returns-in-Ok-withdraw c =
-    let got = c.in-Ok-withdraw.ensures in
-    let f = c.args.fit.now in
-    let g = c.withdraw.new.self in
-    subst (λ (u : Use). Due (sheet_of f) u (Ok (Withdrawn c.in-Ok-withdraw.value)) (sheet_of g)) (sym c.in-Withdraw.is)
-    (withdrawal_due f g c.in-Ok-withdraw.value got.modulus got.cases)
+pub returns-in_ok-offer-in-Offer : goal.returns-in_ok-offer-in-Offer
+returns-in_ok-offer-in-Offer c =
+    let got = c.in_ok-offer-in-Offer.ensures in
+    rw c.in-Offer.is (offer-due c.args.fit.now c.offer.new.self _ _ got.modulus got.cases.0 got.cases.1)
 
-pub returns-in-Err-withdraw : goal.returns-in-Err-withdraw
-returns-in-Err-withdraw c =
-    let got = c.in-Err-withdraw.ensures in
-    let f = c.args.fit.now in
-    let g = c.withdraw.new.self in
-    subst (λ (u : Use). Due (sheet_of f) u (Err c.in-Err-withdraw.refusal) (sheet_of g)) (sym c.in-Withdraw.is)
-    (refused-due f g _ c.in-Err-withdraw.refusal got.cases.1 (refuses_withdrawal got.cases.0))
+pub returns-in_ok-withdraw-in-Withdraw : goal.returns-in_ok-withdraw-in-Withdraw
+returns-in_ok-withdraw-in-Withdraw c =
+    let got = c.in_ok-withdraw-in-Withdraw.ensures in
+    rw c.in-Withdraw.is (withdrawal_due c.args.fit.now c.withdraw.new.self _ got.modulus got.cases)

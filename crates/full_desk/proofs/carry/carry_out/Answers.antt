@@ -1,9 +1,7 @@
 use Rattle.std.proofs.Common.{sym, refl, subst}
 use Rattle.std.proofs.lemmas.Result.{err_from_is_err_and}
-use Rattle.rack.specs.Runs.{meanings}
-use Rattle.full_desk.specs.Kinds.{askings}
-use Rattle.full_desk.specs.Stops.{Stops, off_the_list, no_memory}
-use Rattle.full_desk.specs.declared.carry.Stopped.TheVariants.{Refused}
+use Rattle.desk.specs.Stops.{Stops, off_the_list, no_memory}
+use Rattle.desk.specs.declared.carry.Stopped.TheVariants.{Refused}
 use Rattle.modulus.specs.declared.refusal.Refusal.{Refusal}
 use Rattle.full_desk.proofs.Books.{carried}
 use Rattle.full_desk.proofs.Laws.{decided, leads_back}
@@ -25,7 +23,7 @@ returns g c =
     let opened = c.in_ok-open.ensures in
     let did = c.carry_on.ensures in
     record {
-      law = carried c.args.p c.args.e c.args.tally.now.out c.args.steps.now c.carry_on.new.steps (meanings g.E.Element.lanes g.E.Element.level c.args.rack.now.trays.now) (meanings g.E.Element.lanes g.E.Element.level c.carry_on.new.rack.trays.now) (askings g.E.Element.lanes g.E.Element.level c.args.uses.now) _ c.open.new.self c.carry_on.new.fit opened.1 opened.2 opened.3 did.book;
+      law = carried c.args.p c.args.e c.args.tally.now.out c.args.steps.now c.carry_on.new.steps _ _ _ _ c.open.new.self c.carry_on.new.fit opened.1 opened.2 opened.3 did.book;
       tally = did.tally;
       lender = did.lender;
       decided = decided;
