@@ -1,6 +1,6 @@
 // Single steps over elements.
 ghost use Rattle.std.specs.Prelude.{◌≡◌, ◌+◌, ◌<◌, length, MatchResult};
-ghost use Rattle.rack.specs.Runs.{Stuck, StuckStep, after_step, given, meaning_of, meanings, tray};
+ghost use Rattle.rack.specs.Runs.{Stuck, StuckStep, after_step, given, meaning_of, meanings};
 
 use element::rules::{Element, Spent};
 use modulus::listed::Modulus;
@@ -30,9 +30,9 @@ pub(crate) fn do_step<E: Element>(
     requires b { base + s.b < length trays.old }
     ensures { MatchResult result (λ _. (StuckStep base (meanings E.Element.lanes E.Element.level trays.old) s → ⊥) × (meanings E.Element.lanes E.Element.level trays.new ≡ after_step modulus.now.value base (meanings E.Element.lanes E.Element.level trays.old) s)) (λ _. StuckStep base (meanings E.Element.lanes E.Element.level trays.old) s × (trays.new ≡ trays.old)) }
 {
-    let a = trays[base + s.a as usize];
-    let b = trays[base + s.b as usize];
+    let a = trays[base + usize::from(s.a)];
+    let b = trays[base + usize::from(s.b)];
     let given = result(a, b, s, modulus)?;
-    trays[base + s.to as usize] = given;
+    trays[base + usize::from(s.to)] = given;
     Ok(())
 }
