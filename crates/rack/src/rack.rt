@@ -24,7 +24,7 @@ fn do_steps<E: Element>(
     modulus: &Modulus,
 ) -> Result<(), Refusal>
     requires { base + trays_of steps.now ≤ length trays.old }
-    ensures { MatchResult result (λ _. ((i : ℕ) → i < length steps.now → StuckAt modulus.now.value base (meanings E.Element.lanes E.Element.level trays.old) steps.now i → ⊥) × (meanings E.Element.lanes E.Element.level trays.new ≡ after_steps modulus.now.value base (meanings E.Element.lanes E.Element.level trays.old) steps.now)) (λ f. (i : ℕ) × (f ≡ Refusal.LevelUsed i) × (i < length steps.now) × ((j : ℕ) → j < i → StuckAt modulus.now.value base (meanings E.Element.lanes E.Element.level trays.old) steps.now j → ⊥) × StuckAt modulus.now.value base (meanings E.Element.lanes E.Element.level trays.old) steps.now i × (meanings E.Element.lanes E.Element.level trays.new ≡ after_steps modulus.now.value base (meanings E.Element.lanes E.Element.level trays.old) (take i steps.now))) }
+    ensures { let before = meanings E.Element.lanes E.Element.level trays.old in let after = meanings E.Element.lanes E.Element.level trays.new in MatchResult result (λ _. ((i : ℕ) → i < length steps.now → StuckAt modulus.now.value base before steps.now i → ⊥) × (after ≡ after_steps modulus.now.value base before steps.now)) (λ f. (i : ℕ) × (f ≡ Refusal.LevelUsed i) × (i < length steps.now) × ((j : ℕ) → j < i → StuckAt modulus.now.value base before steps.now j → ⊥) × StuckAt modulus.now.value base before steps.now i × (after ≡ after_steps modulus.now.value base before (take i steps.now))) }
 {
     for (i, s) in steps.iter().enumerate() {
         do_step(trays, base, *s, modulus).map_err(|_| Refusal::LevelUsed { step: i })?;
@@ -76,7 +76,7 @@ pub(crate) fn run_on<E: Element>(
     modulus: &Modulus,
 ) -> Result<E, Refusal>
     requires { base + trays_of steps.now ≤ length trays.old }
-    ensures { MatchResult result (λ x. Ran modulus.now.value base (meanings E.Element.lanes E.Element.level trays.old) steps.now (meaning_of E.Element.lanes E.Element.level input) (meaning_of E.Element.lanes E.Element.level x) (meanings E.Element.lanes E.Element.level trays.new)) (λ f. (i : ℕ) × (f ≡ Refusal.LevelUsed i) × StopsAt modulus.now.value base (meanings E.Element.lanes E.Element.level trays.old) steps.now (meaning_of E.Element.lanes E.Element.level input) i (meanings E.Element.lanes E.Element.level trays.new)) }
+    ensures { let before = meanings E.Element.lanes E.Element.level trays.old in let after = meanings E.Element.lanes E.Element.level trays.new in let given = meaning_of E.Element.lanes E.Element.level input in MatchResult result (λ x. Ran modulus.now.value base before steps.now given (meaning_of E.Element.lanes E.Element.level x) after) (λ f. (i : ℕ) × (f ≡ Refusal.LevelUsed i) × StopsAt modulus.now.value base before steps.now given i after) }
 {
     trays[base] = input;
     do_steps(trays, base, steps, modulus)?;
