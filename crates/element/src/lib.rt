@@ -3,6 +3,7 @@
 
 pub mod arith;
 pub mod bare;
+pub mod lanes;
 pub mod levelled;
 pub mod rules;
 pub mod show;

@@ -41,6 +41,7 @@ pub trait Element: Copy {
         ensures lanes { Multiples modulus.now.prime (lanes self) → lanes result ≡ lowered modulus.now.prime (lanes self) }
         ensures level { level result ≡ level self };
 
+    // The laws have no defaults: a default is proved once, where nothing is known of the lanes, so each kind has a search for each.
     ghost wide: { (x : Self) → length (lanes x) ≡ width };
 
     ghost some: { 1 ≤ width };

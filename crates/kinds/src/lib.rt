@@ -205,12 +205,9 @@ mod tests {
         run(2, 3, &ladder(), input, &mut rack, &mut tally)
     }
 
-    // The number and the place of a refusal; 0 and 0 for an answer.
-    fn refused<E: Element>(answer: Result<E, Refusal>) -> (u8, usize) {
-        match answer {
-            Ok(_) => (0, 0),
-            Err(refusal) => (refusal.number(), refusal.place()),
-        }
+    // The number and the place of a refusal; none for an answer.
+    fn refused<E: Element>(answer: Result<E, Refusal>) -> Option<(u8, usize)> {
+        answer.err().map(|f| (f.number(), f.place()))
     }
 
     #[test]
@@ -230,10 +227,10 @@ mod tests {
     #[test]
     fn runs_are_refused(rt: HostRuntime) -> Result<(), Fail> {
         let mut few = [Bare::new(0); 2];
-        assert_eq!(rt; refused(climb(Bare::new(3), &mut few)), (9, 3));
+        assert_eq!(rt; refused(climb(Bare::new(3), &mut few)), Some((9, 3)));
         let mut buffer = [Levelled::new(Bare::new(0), 0); 3];
         let spent = Levelled::new(Bare::new(3), 0);
-        assert_eq!(rt; refused(climb(spent, &mut buffer)), (10, 4));
+        assert_eq!(rt; refused(climb(spent, &mut buffer)), Some((10, 4)));
         let fresh = Levelled::new(Bare::new(3), 1);
         check_lanes(&rt, climb(fresh, &mut buffer)?, [1, 0, 0]);
         Ok(())

@@ -1,6 +1,7 @@
 // How to add a kind of element: a type of three lanes, made outside the crate that has the other kinds.
 // A kind is a Copy type. It says what its lanes and its level are, and has the five operations, whose contracts the interface gives;
 // `Open` is for a kind that shows its lanes. Nothing here has a proof file.
+// It is a struct of its own, and no `Lanes<3>` of the crate `element`, so that a reader sees all that a new kind has to write.
 ghost use Rattle.std.specs.Prelude.{◌≡◌, ◌<◌, [], ◌∷◌};
 ghost use Rattle.element.specs.Rules.{endless};
 ghost use Rattle.std.proofs.Common.{rules};

@@ -1,10 +1,10 @@
 -- The lanes of a run: each lane goes through the steps by itself. Assumes nothing.
-use Rattle.std.proofs.Common.{◌≡◌, ℕ, zero, suc, ◌+◌, ◌*◌, ◌%◌, ◌^◌, ◌<◌, List, [], ◌∷◌, length, get_or, set, pos, sym, refl, ap, ◌∙◌, subst, ap₂, subst₂, ⊎_elim, arith}
+use Rattle.std.proofs.Common.{◌≡◌, ℕ, ◌+◌, ◌*◌, ◌%◌, ◌^◌, ◌<◌, List, [], ◌∷◌, length, get_or, set, pos, sym, refl, ap, ◌∙◌, subst, ap₂, subst₂, ⊎_elim, arith}
 use Rattle.std.proofs.lemmas.List.{get_or-set_same, get_or-set_other, length-set}
 use Rattle.std.proofs.lemmas.Bool.{cases_eq}
 use Rattle.modulus.specs.Congruence.{Cong}
 use Rattle.poly.specs.Polynomial.{value, form}
-use Rattle.element.specs.Rules.{products, scaled, shifted, sums}
+use Rattle.element.proofs.Lanewise.{lane-products, lane-scaled, lane-shifted, lane-sums, length-products, length-scaled, length-shifted, length-sums}
 use Rattle.plan.specs.Steps.{greatest_of}
 use Rattle.plan.specs.Trays.{after, answer, computed, last_from, put}
 use Rattle.plan.specs.declared.step.Op.{Op}
@@ -14,47 +14,6 @@ use Rattle.planner.proofs.Stores.{put_same, put_other}
 use Rattle.rack.specs.Lanes.{DueLanes, LaneByLane, Wide, lane}
 use Rattle.rack.specs.Runs.{Meaning, after_step, after_steps, given, tray}
 use Rattle.rack.proofs.Meant.{last_within}
-
--- ---- one operation: how many lanes it leaves, and what is in each
-length-sums : (m width : ℕ) (xs ys : List ℕ) → length xs ≡ width → length ys ≡ width → length (sums m xs ys) ≡ width
-length-sums m width [] ys lx ly = lx
-length-sums m width (x ∷ xs) [] lx ly = ly
-length-sums m width (x ∷ xs) (y ∷ ys) lx ly = omega (arith, length-sums m (length xs) xs ys refl (omega arith))
-
-length-products : (m width : ℕ) (xs ys : List ℕ) → length xs ≡ width → length ys ≡ width → length (products m xs ys) ≡ width
-length-products m width [] ys lx ly = lx
-length-products m width (x ∷ xs) [] lx ly = ly
-length-products m width (x ∷ xs) (y ∷ ys) lx ly = omega (arith, length-products m (length xs) xs ys refl (omega arith))
-
-length-scaled : (m k : ℕ) (xs : List ℕ) → length (scaled m k xs) ≡ length xs
-length-scaled m k [] = refl
-length-scaled m k (x ∷ xs) = ap suc (length-scaled m k xs)
-
-length-shifted : (m k : ℕ) (xs : List ℕ) → length (shifted m k xs) ≡ length xs
-length-shifted m k [] = refl
-length-shifted m k (x ∷ xs) = ap suc (length-shifted m k xs)
-
-lane-sums : (m : ℕ) (xs ys : List ℕ) (j : ℕ) → j < length xs → j < length ys → get_or (sums m xs ys) j 0 ≡ (get_or xs j 0 + get_or ys j 0) % m
-lane-sums m [] ys j lx ly = absurd (omega arith)
-lane-sums m (x ∷ xs) [] j lx ly = absurd (omega arith)
-lane-sums m (x ∷ xs) (y ∷ ys) zero lx ly = refl
-lane-sums m (x ∷ xs) (y ∷ ys) (suc j) lx ly = lane-sums m xs ys j (omega arith) (omega arith)
-
-lane-products : (m : ℕ) (xs ys : List ℕ) (j : ℕ) → j < length xs → j < length ys → get_or (products m xs ys) j 0 ≡ (get_or xs j 0 * get_or ys j 0) % m
-lane-products m [] ys j lx ly = absurd (omega arith)
-lane-products m (x ∷ xs) [] j lx ly = absurd (omega arith)
-lane-products m (x ∷ xs) (y ∷ ys) zero lx ly = refl
-lane-products m (x ∷ xs) (y ∷ ys) (suc j) lx ly = lane-products m xs ys j (omega arith) (omega arith)
-
-lane-scaled : (m k : ℕ) (xs : List ℕ) (j : ℕ) → j < length xs → get_or (scaled m k xs) j 0 ≡ (get_or xs j 0 * k) % m
-lane-scaled m k [] j lx = absurd (omega arith)
-lane-scaled m k (x ∷ xs) zero lx = refl
-lane-scaled m k (x ∷ xs) (suc j) lx = lane-scaled m k xs j (omega arith)
-
-lane-shifted : (m k : ℕ) (xs : List ℕ) (j : ℕ) → j < length xs → get_or (shifted m k xs) j 0 ≡ (get_or xs j 0 + k) % m
-lane-shifted m k [] j lx = absurd (omega arith)
-lane-shifted m k (x ∷ xs) zero lx = refl
-lane-shifted m k (x ∷ xs) (suc j) lx = lane-shifted m k xs j (omega arith)
 
 -- ---- one step
 given-width : (m width : ℕ) (a b : Meaning) (k : ℕ) (op : Op) → length a.lanes ≡ width → length b.lanes ≡ width → length (given m a b k op).lanes ≡ width

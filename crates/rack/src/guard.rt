@@ -1,4 +1,4 @@
-// The guard under which runs take their own trays.
+// The guard under which runs take their own trays: it has the shape of a hold and is not one, since a hold is its caller's own, above the guards of runs.
 ghost use Rattle.std.specs.Prelude.{◌≡◌};
 
 use crate::tally::Tally;

@@ -16,21 +16,18 @@ pub struct Rack<'a, E> {
     pub(crate) trays: &'a mut [E],
 }
 
-// Does the steps on the trays from a base on; answers the first multiplication that no level is left for.
+// Does the steps on the trays from a base on; refuses the first multiplication that no level is left for.
 fn do_steps<E: Element>(
     trays: &mut [E],
     base: usize,
     steps: &[Step],
     modulus: &Modulus,
-) -> Result<(), usize>
+) -> Result<(), Refusal>
     requires { base + trays_of steps.now ≤ length trays.old }
-    ensures { MatchResult result (λ _. ((i : ℕ) → i < length steps.now → StuckAt modulus.now.value base (meanings E.Element.lanes E.Element.level trays.old) steps.now i → ⊥) × (meanings E.Element.lanes E.Element.level trays.new ≡ after_steps modulus.now.value base (meanings E.Element.lanes E.Element.level trays.old) steps.now)) (λ i. (i < length steps.now) × ((j : ℕ) → j < i → StuckAt modulus.now.value base (meanings E.Element.lanes E.Element.level trays.old) steps.now j → ⊥) × StuckAt modulus.now.value base (meanings E.Element.lanes E.Element.level trays.old) steps.now i × (meanings E.Element.lanes E.Element.level trays.new ≡ after_steps modulus.now.value base (meanings E.Element.lanes E.Element.level trays.old) (take i steps.now))) }
+    ensures { let before = meanings E.Element.lanes E.Element.level trays.old in let after = meanings E.Element.lanes E.Element.level trays.new in MatchResult result (λ _. ((i : ℕ) → i < length steps.now → StuckAt modulus.now.value base before steps.now i → ⊥) × (after ≡ after_steps modulus.now.value base before steps.now)) (λ f. (i : ℕ) × (f ≡ Refusal.LevelUsed i) × (i < length steps.now) × ((j : ℕ) → j < i → StuckAt modulus.now.value base before steps.now j → ⊥) × StuckAt modulus.now.value base before steps.now i × (after ≡ after_steps modulus.now.value base before (take i steps.now))) }
 {
     for (i, s) in steps.iter().enumerate() {
-        match do_step(trays, base, *s, modulus) {
-            Ok(()) => {}
-            Err(_) => return Err(i),
-        }
+        do_step(trays, base, *s, modulus).map_err(|_| Refusal::LevelUsed { step: i })?;
     }
     Ok(())
 }
@@ -59,10 +56,7 @@ fn last_tray(steps: &[Step]) -> u8
     ensures is { result ≡ last_from 0 steps.now }
     ensures within { result ≤ greatest_of steps.now }
 {
-    if steps.len() == 0 {
-        return 0;
-    }
-    steps[steps.len() - 1].to
+    steps.last().map_or(0, |s| s.to)
 }
 
 // What the tray with this number above the base has.
@@ -70,7 +64,7 @@ fn tray_at<E: Element>(trays: &[E], base: usize, tray: u8) -> E
     requires { base + tray < length trays.now }
     ensures { result ≡ slice_index_or trays.now (base + tray) result }
 {
-    trays[base + tray as usize]
+    trays[base + usize::from(tray)]
 }
 
 // Copies the input to the first tray above the base, does the steps, and answers the tray that is written last.
@@ -82,11 +76,9 @@ pub(crate) fn run_on<E: Element>(
     modulus: &Modulus,
 ) -> Result<E, Refusal>
     requires { base + trays_of steps.now ≤ length trays.old }
-    ensures { MatchResult result (λ x. Ran modulus.now.value base (meanings E.Element.lanes E.Element.level trays.old) steps.now (meaning_of E.Element.lanes E.Element.level input) (meaning_of E.Element.lanes E.Element.level x) (meanings E.Element.lanes E.Element.level trays.new)) (λ f. (i : ℕ) × (f ≡ Refusal.LevelUsed i) × StopsAt modulus.now.value base (meanings E.Element.lanes E.Element.level trays.old) steps.now (meaning_of E.Element.lanes E.Element.level input) i (meanings E.Element.lanes E.Element.level trays.new)) }
+    ensures { let before = meanings E.Element.lanes E.Element.level trays.old in let after = meanings E.Element.lanes E.Element.level trays.new in let given = meaning_of E.Element.lanes E.Element.level input in MatchResult result (λ x. Ran modulus.now.value base before steps.now given (meaning_of E.Element.lanes E.Element.level x) after) (λ f. (i : ℕ) × (f ≡ Refusal.LevelUsed i) × StopsAt modulus.now.value base before steps.now given i after) }
 {
     trays[base] = input;
-    match do_steps(trays, base, steps, modulus) {
-        Ok(()) => Ok(tray_at(trays, base, last_tray(steps))),
-        Err(step) => Err(Refusal::LevelUsed { step }),
-    }
+    do_steps(trays, base, steps, modulus)?;
+    Ok(tray_at(trays, base, last_tray(steps)))
 }

@@ -14,7 +14,7 @@ use modulus::refusal::Refusal;
 use plan::check::{first_bad, trays};
 use plan::step::Step;
 
-// Refuses a list with a bad step.
+// Refuses a list with a bad step. A match: what is found is what is refused, and no method of Option turns `Some` into `Err`.
 fn check_steps(modulus: &Modulus, steps: &[Step]) -> Result<(), Refusal>
     ensures { MatchResult result (λ _. Passes modulus.now.value steps.now) (λ f. (i : ℕ) × FirstBad modulus.now.value steps.now i × (f ≡ Refusal.BadStep i)) }
 {
@@ -33,7 +33,8 @@ fn checked(p: u32, e: u32, steps: &[Step]) -> Result<Modulus, Refusal>
     Ok(modulus)
 }
 
-// Takes the trays that the steps need, and runs them there. They stay out: who calls puts the count back.
+// Takes the trays that the steps need, and runs them there. They stay out: `run_held` puts the count back.
+// The two are apart so that a way out without the guard fails at a fact of `run_held`, which has no proof file.
 fn run_taken<E: Element>(
     modulus: &Modulus,
     steps: &[Step],
@@ -67,7 +68,7 @@ fn run_held<E: Element>(
     run_taken(modulus, steps, input, rack, &mut *guard.tally)
 }
 
-// The run, and the laws of runs.
+// The run, and the laws of runs. `run` above it has the same contract and no proof file, so that a wrong call fails at a fact of `run`.
 fn run_all<E: Element>(
     p: u32,
     e: u32,

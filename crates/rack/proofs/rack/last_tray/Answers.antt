@@ -1,9 +1,10 @@
-use Rattle.std.proofs.Common.{sym, arith}
-use Rattle.rack.proofs.Meant.{last_at, last_none, tray-within}
+use Rattle.std.proofs.Common.{arith}
+use Rattle.std.proofs.lemmas.Grind.{common_steps}
+use Rattle.rack.proofs.Meant.{last_at, last_none, last_within}
 use Rattle.rack.proofs.rack.last_tray.Goals as goal
 
-pub returns-then-steps-eq0 : goal.returns-then-steps-eq0
-returns-then-steps-eq0 c = record { is = sym (last_none 0 c.args.steps.now c.if-steps-eq0.true); within = omega arith }
+pub returns-clause-is : goal.returns-clause-is
+returns-clause-is c = grind (arith, common_steps, last_at, last_none)
 
-pub returns : goal.returns
-returns c = record { is = sym (last_at 0 c.args.steps.now (omega arith)); within = (tray-within c.args.steps.now _ (omega arith)).0 }
+pub returns-clause-within : goal.returns-clause-within
+returns-clause-within c = omega (arith, returns-clause-is c, last_within 0 c.args.steps.now)

@@ -1,5 +1,6 @@
-use Rattle.std.proofs.Common.{◌≡◌, ℕ, ◌+◌, ◌<◌, List, length, take, set, sym, refl, ap, ◌∙◌, subst, arith}
+use Rattle.std.proofs.Common.{◌≡◌, ℕ, ◌+◌, ◌<◌, List, length, take, set, sym, ap, ◌∙◌, subst, arith}
 use Rattle.std.proofs.lemmas.List.{length-set, map-set}
+use Rattle.std.proofs.lemmas.Result.{err_from_is_err_and}
 use Rattle.plan.specs.Trays.{last_from}
 use Rattle.plan.specs.declared.step.Step.{Step}
 use Rattle.rack.specs.Runs.{Meaning, Ran, StopsAt, StuckAt, after_steps, meaning_of, meanings, tray}
@@ -28,26 +29,27 @@ stops m base trays begun after steps input i is within free stuck leaves =
       leaves = leaves ∙ ap (λ (xs : List Meaning). after_steps m base xs (take i steps)) is;
     }
 
-pub returns-in-Ok : goal.returns-in-Ok
-returns-in-Ok g c =
+pub returns-in_err-do_steps : goal.returns-in_err-do_steps
+returns-in_err-do_steps g c =
     let lanes = g.E.Element.lanes in
     let level = g.E.Element.level in
-    let got = c.in-Ok.ensures in
+    let p = err_from_is_err_and c.from_residual.result c.from_residual.ensures.1 in
+    let got = c.in_err-do_steps.ensures in
+    rw (p.1, p.2) (
+      got.0,
+      got.1,
+      stops c.args.modulus.now.value c.args.base (meanings lanes level c.args.trays.now) _ (meanings lanes level c.do_steps.new.trays) c.args.steps.now (meaning_of lanes level c.args.input) got.0
+          (map-set (meaning_of lanes level) c.args.trays.now c.args.base c.args.input) got.2 got.3 got.4 got.5,
+    )
+
+pub returns : goal.returns
+returns g c =
+    let lanes = g.E.Element.lanes in
+    let level = g.E.Element.level in
+    let got = c.in_ok-do_steps.ensures in
     let base = c.args.base in
     let last = c.last_tray.result in
     ran c.args.modulus.now.value base (meanings lanes level c.args.trays.now) _ (meanings lanes level c.do_steps.new.trays) c.args.steps.now (meaning_of lanes level c.args.input) (meaning_of lanes level c.tray_at.result)
     (map-set (meaning_of lanes level) c.args.trays.now base c.args.input) got.0 got.1
     (sym (tray_read lanes level c.do_steps.new.trays (base + last) c.tray_at.result (omega (arith, c.requires, c.last_tray.ensures.within, c.do_steps.auto.trays, length-set c.args.trays.now base c.args.input)) c.tray_at.ensures)
     ∙ ap (λ (t : ℕ). tray (meanings lanes level c.do_steps.new.trays) (base + t)) c.last_tray.ensures.is)
-
-pub returns-in-Err : goal.returns-in-Err
-returns-in-Err g c =
-    let lanes = g.E.Element.lanes in
-    let level = g.E.Element.level in
-    let got = c.in-Err.ensures in
-    let base = c.args.base in (
-      c.in-Err.step,
-      refl,
-      stops c.args.modulus.now.value base (meanings lanes level c.args.trays.now) _ (meanings lanes level c.do_steps.new.trays) c.args.steps.now (meaning_of lanes level c.args.input) c.in-Err.step
-          (map-set (meaning_of lanes level) c.args.trays.now base c.args.input) got.0 got.1 got.2 got.3,
-    )
