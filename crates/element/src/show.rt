@@ -4,9 +4,9 @@ use std::fmt;
 
 // The lanes of an element, with commas between them.
 #[derive(Drop)]
-pub struct Lanes<'a, E>(pub &'a E);
+pub struct LanesOf<'a, E>(pub &'a E);
 
-impl<E: Open> fmt::Display for Lanes<'_, E> {
+impl<E: Open> fmt::Display for LanesOf<'_, E> {
     fn fmt<W: fmt::Write>(&self, f: &mut fmt::Formatter<W>) -> fmt::Result {
         for (i, lane) in (0..).map_while(|i| self.0.lane(i)).enumerate() {
             if i > 0 {

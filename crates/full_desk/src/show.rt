@@ -1,7 +1,7 @@
 // How uses and answers are printed.
 use crate::uses::{Answer, Use};
 use element::rules::Open;
-use element::show::Lanes;
+use element::show::LanesOf;
 use std::fmt;
 
 impl<E: Open> fmt::Display for Use<E> {
@@ -21,7 +21,7 @@ impl<E: Open> fmt::Display for Use<E> {
             } => write!(
                 f,
                 "run modulo {p}^{e} on {}, {count} steps of the buffer from {start} on",
-                Lanes(input)
+                LanesOf(input)
             ),
         }
     }
@@ -33,7 +33,7 @@ impl<E: Open> fmt::Display for Answer<E> {
             Answer::Stands { accepted } => write!(f, "{accepted}"),
             Answer::Withdrawn { value } => write!(f, "{value} goes"),
             Answer::Written { price } => write!(f, "{price}"),
-            Answer::Ran { element } => write!(f, "answers {}", Lanes(element)),
+            Answer::Ran { element } => write!(f, "answers {}", LanesOf(element)),
         }
     }
 }

@@ -5,7 +5,7 @@ use anyhow::Context;
 use element::bare::Bare;
 use element::levelled::Levelled;
 use element::rules::Open;
-use element::show::Lanes;
+use element::show::LanesOf;
 use element::twin::Twin;
 use fit::table::Fit;
 use modulus::refusal::Refusal;
@@ -33,7 +33,7 @@ const FEW_TRAYS: usize = 2;
 fn print_trays<E: Open>(rt: &HostRuntime, trays: &[E]) -> anyhow::Result<()> {
     print!(rt; "    trays after it:")?;
     for x in trays {
-        print!(rt; " {}", Lanes(x))?;
+        print!(rt; " {}", LanesOf(x))?;
     }
     println!(rt; "")?;
     Ok(())
@@ -47,11 +47,11 @@ fn print_run<E: Open>(
     rack: &mut Rack<'_, E>,
     tally: &mut Tally,
 ) -> anyhow::Result<Option<E>> {
-    println!(rt; "{}:", Lanes(&input))?;
+    println!(rt; "{}:", LanesOf(&input))?;
     println!(rt; "    tally before {}", tally.out())?;
     let answer = run(PRIME, EXPONENT, steps, input, rack, tally);
     match &answer {
-        Ok(x) => println!(rt; "    answer {}", Lanes(x))?,
+        Ok(x) => println!(rt; "    answer {}", LanesOf(x))?,
         Err(refusal) => println!(rt; "    {refusal}")?,
     }
     println!(rt; "    tally after {}", tally.out())?;
