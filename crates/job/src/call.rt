@@ -29,18 +29,6 @@ fn write_out(text: &mut [u8], page: &Result<Figures, Refusal>) -> Result<usize, 
     Ok(width)
 }
 
-// The report on the bytes, written to the front of the buffer, and the laws of texts and reports.
-fn write_report(job: &[u8], text: &mut [u8]) -> Result<usize, Refusal>
-    ensures cases { MatchResult result (λ n. (n ≤ length text.old) × Reports job.now (take n text.new) × (drop n text.new ≡ drop n text.old)) (λ f. (out : List ℕ) × Reports job.now out × (length text.old < length out) × (f ≡ Refusal.ShortBuffer (length out)) × (text.new ≡ text.old)) }
-    ensures one_job { OneJob }
-    ensures one_bad_line { OneBadLine }
-    ensures one_report { OneReport }
-    ensures plain { PlainNumbers }
-{
-    let page = page_of(job);
-    write_out(text, &page)
-}
-
 // Writes the report on a job, given as text, to the front of the buffer and answers how many bytes it has; what lies past them stays.
 // Whatever is wrong with the job is said in the report. Refuses only a buffer that is too short, with the bytes needed, and leaves it as it is.
 pub fn report(job: &[u8], text: &mut [u8]) -> Result<usize, Refusal>
@@ -50,5 +38,6 @@ pub fn report(job: &[u8], text: &mut [u8]) -> Result<usize, Refusal>
     ensures one_report { OneReport }
     ensures plain { PlainNumbers }
 {
-    write_report(job, text)
+    let page = page_of(job);
+    write_out(text, &page)
 }

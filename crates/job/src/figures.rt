@@ -50,6 +50,7 @@ fn ladder_multiplications(fit: &Fit) -> usize
 }
 
 // The figures of what stands in the fit. No form has more coefficients than a report has room for.
+// The two lists are written alike; one function for both would take the call as a closure, and its clauses on what that writes are longer than this.
 fn figures(fit: &Fit, refusal: Option<Refusal>) -> Figures
     ensures standing { result.standing ≡ length (stands fit.now) }
     ensures refusal { result.refusal ≡ refusal }

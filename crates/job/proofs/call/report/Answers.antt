@@ -2,7 +2,7 @@ use Rattle.std.proofs.Common.{arith}
 use Rattle.std.proofs.lemmas.Fmt.{decimal_digit, decimal_is_IsNumeral, first_decimal}
 use Rattle.job.proofs.Grammar.{one_bad_line, one_job}
 use Rattle.job.proofs.Reporting.{one_report}
-use Rattle.job.proofs.call.write_report.Goals as goal
+use Rattle.job.proofs.call.report.Goals as goal
 
 pub returns-clause-one_job : goal.returns-clause-one_job
 returns-clause-one_job c = one_job
