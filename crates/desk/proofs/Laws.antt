@@ -1,20 +1,20 @@
 -- The two laws of the book: it leaves nothing open, and the values of a reduced form lead back to it. Assumes nothing.
-use Rattle.std.proofs.Common.{◌≡◌, ℕ, zero, suc, ◌%◌, ◌^◌, ◌<◌, ◌≤◌, List, [], ◌∷◌, ◌++◌, map, length, get_or, take, Ok, Err, Result, sym, refl, ap, ◌∙◌, subst, mod-lt, arith}
+use Rattle.std.proofs.Common.{◌≡◌, ℕ, suc, ◌%◌, ◌^◌, ◌<◌, List, [], ◌∷◌, ◌++◌, get_or, take, Ok, Err, Result, sym, refl, ap, ◌∙◌, subst, mod-lt, arith}
 use native.Mathlib.Decide.{dec_lt}
-use Rattle.std.proofs.lemmas.List.{same_from_push, map_push, length_push, length-take, get_or_push, get_or_append_left, get_or-take, get_or_past}
+use Rattle.std.proofs.lemmas.List.{same_from_push, length-take, get_or-take, get_or_past}
 use Rattle.modulus.specs.Moduli.{Listed}
 use Rattle.modulus.specs.Bounds.{w}
 use Rattle.modulus.specs.declared.refusal.Refusal.{Refusal}
 use Rattle.modulus.proofs.Bounds.{w-positive, above_one}
 use Rattle.poly.specs.Reduced.{Reduced, Reported, value_at, standing}
-use Rattle.poly.proofs.Points.{below_suc}
 use Rattle.poly.proofs.Standing.{length-standing, standing-same, form_length-past}
 use Rattle.poly.proofs.Reports.{fits-standing, reported, reported-unique}
 use Rattle.fit.proofs.Offers.{no_offer_same}
 use Rattle.fit.specs.Rules.{NoOffer, full, large, unfit, Offered, NoWithdrawal, none}
 use Rattle.fit.specs.declared.table.offer.Accepted.{Accepted}
-use Rattle.desk.specs.Book.{Sheet, sheet, fresh, Refuses, refuses_offer, refuses_withdrawal, Gives, stands_now, goes, Due, turned_away, answered, Book, closed, entry}
+use Rattle.desk.specs.Book.{Sheet, sheet, Refuses, refuses_offer, refuses_withdrawal, Gives, stands_now, goes, Due, turned_away, answered, Book, closed, entry}
 use Rattle.desk.specs.Law.{Decided, LeadsBack, accepted}
+use Rattle.desk.proofs.Walks.{Walk, done, step, walks_same, values-taken}
 use Rattle.desk.specs.declared.uses.Use.{Use}
 use Rattle.desk.specs.declared.uses.Use.TheVariants.{Offer}
 use Rattle.desk.specs.declared.uses.Answer.{Answer}
@@ -57,42 +57,13 @@ due_same s u a b t t' (answered {a = x} l h) (answered {a = z} r k) =
     let same : (x ≡ z) × (t ≡ t') = gives_same s u x z t t' h k in
     (ap (λ (q : Answer). Ok q) same.0, same.1)
 
-pub books_same : (us : List Use) (s end end' : Sheet) (answers answers' : List (Result Answer Refusal)) → Book s us answers end → Book s us answers' end'
-    → (answers ≡ answers') × (end ≡ end')
-books_same [] s end end' answers answers' closed closed = (refl, refl)
-books_same (u ∷ us) s end end' answers answers' (entry {t} {a} {rest} h hs) (entry {t = t'} {a = b} {rest = rest'} k ks) =
-    let first : (a ≡ b) × (t ≡ t') = due_same s u a b t t' h k in
-    let others : (rest ≡ rest') × (end ≡ end') = books_same us t' end end' rest rest' (subst (λ (x : Sheet). Book x us rest end) first.1 hs) ks in
-    (ap (λ (x : Result Answer Refusal). x ∷ rest) first.0 ∙ ap (λ (l : List (Result Answer Refusal)). b ∷ l) others.0, others.1)
+-- a book is a walk by what is due
+walk : {s end : Sheet} {us : List Use} {answers : List (Result Answer Refusal)} → Book s us answers end → Walk Due s us answers end
+walk closed = done
+walk (entry first rest) = step first (walk rest)
 
 pub decided : Decided
-decided s end end' us answers answers' h k = books_same us s end end' answers answers' h k
-
--- ---- the last entry of a book
--- a book over us and then u, parted before u
-pub record Last (s : Sheet) (us : List Use) (u : Use) (answers : List (Result Answer Refusal)) (end : Sheet) : Type 0 where
-  pub mid : Sheet
-  pub before : List (Result Answer Refusal)
-  pub last : Result Answer Refusal
-  pub book : Book s us before mid
-  pub due : Due mid u last end
-  pub is : answers ≡ before ++ last ∷ []
-
-pub book-none : (s end : Sheet) (answers : List (Result Answer Refusal)) → Book s [] answers end → (answers ≡ []) × (end ≡ s)
-book-none s end answers closed = (refl, refl)
-
-pub book-last : (us : List Use) (u : Use) (s end : Sheet) (answers : List (Result Answer Refusal)) → Book s (us ++ u ∷ []) answers end → Last s us u answers end
-book-last [] u s end answers (entry {a} h closed) = record { mid = s; before = []; last = a; book = closed; due = h; is = refl }
-book-last (v ∷ us) u s end answers (entry {t} {a} {rest} h hs) =
-    let l : Last t us u rest end = book-last us u t end rest hs in
-    record {
-      mid = l.mid;
-      before = a ∷ l.before;
-      last = l.last;
-      book = entry h l.book;
-      due = l.due;
-      is = ap (λ (x : List (Result Answer Refusal)). a ∷ x) l.is;
-    }
+decided s end end' us answers answers' h k = walks_same Due due_same us s end end' answers answers' (walk h) (walk k)
 
 -- an offer that no rule refuses is accepted
 pub due_offer : (s : Sheet) (y : ℕ) (a : Result Answer Refusal) (end : Sheet)
@@ -145,40 +116,11 @@ offer-accepted p e h d r n l a end k =
     got.1.reports.2 ∙ ap (λ (i : ℕ). get_or c i 0) here ∙ coefficient-reported p e h d r n c got.1.reports.1 in
     (got.2 ∙ ap (λ (q : Accepted). Ok (Stands q)) (accepted-same x (record { place = n; coefficient = get_or d n 0 }) here coefficient), got.3)
 
--- what a book of the first n values ends with and answers
-pub record Taken (p e : ℕ) (d : List ℕ) (n : ℕ) (answers : List (Result Answer Refusal)) (end : Sheet) : Type 0 where
-  pub ends : end ≡ sheet p e (standing (p ^ e) d n)
-  pub long : length answers ≡ n
-  pub each : (i : ℕ) → i < n → get_or answers i (accepted 0 0) ≡ accepted i (get_or d i 0)
-
-pub values-taken : (p e : ℕ) → Listed p e → (d : List ℕ) → Reduced p e d → (n : ℕ) → n ≤ p ^ e → (answers : List (Result Answer Refusal)) (end : Sheet)
-    → Book (fresh p e) (map Offer (standing (p ^ e) d n)) answers end → Taken p e d n answers end
-values-taken p e h d r zero l answers end k =
-    let empty = book-none (fresh p e) end answers k in
-    record { ends = empty.1; long = ap (λ (x : List (Result Answer Refusal)). length x) empty.0; each = λ i b. absurd (omega arith) }
-values-taken p e h d r (suc n) l answers end k =
-    let y : ℕ = value_at d n % p ^ e in
-    let ys : List ℕ = standing (p ^ e) d n in
-    let split : Last (fresh p e) (map Offer ys) (Offer y) answers end =
-    book-last (map Offer ys) (Offer y) (fresh p e) end answers
-    (subst (λ (us : List Use). Book (fresh p e) us answers end) (map_push (λ (x : ℕ). Offer x) ys y) k) in
-    let earlier : Taken p e d n split.before split.mid = values-taken p e h d r n (omega arith) split.before split.mid split.book in
-    let now : (split.last ≡ accepted n (get_or d n 0)) × (end ≡ sheet p e (standing (p ^ e) d (suc n))) =
-    offer-accepted p e h d r n (omega arith) split.last end (subst (λ (s : Sheet). Due s (Offer y) split.last end) earlier.ends split.due) in
-    record {
-      ends = now.1;
-      long = omega (arith, ap (λ (x : List (Result Answer Refusal)). length x) split.is, length_push split.before split.last, earlier.long);
-      each = λ i b.
-          ap (λ (x : List (Result Answer Refusal)). get_or x i (accepted 0 0)) split.is
-          ∙ below_suc (λ (i : ℕ). get_or (split.before ++ split.last ∷ []) i (accepted 0 0) ≡ accepted i (get_or d i 0)) n
-          (λ i b. get_or_append_left split.before (split.last ∷ []) (accepted 0 0) i (omega (arith, earlier.long)) ∙ earlier.each i b)
-          (get_or_push split.before split.last (accepted 0 0) n earlier.long ∙ now.0)
-          i b;
-    }
-
 pub leads_back : LeadsBack
 leads_back p e h d r n l answers end k =
-    let taken : Taken p e d n answers end = values-taken p e h d r n l answers end k in
+    let told = λ (i : ℕ). accepted i (get_or d i 0) in
+    let holding = λ (i : ℕ). sheet p e (standing (p ^ e) d i) in
+    let taken = values-taken Due (p ^ e) d (λ (y : ℕ). Offer y) holding told (accepted 0 0) (p ^ e) (offer-accepted p e h d r) n l answers end (walk k) in
     let stands : end.values ≡ standing (p ^ e) d n = ap (λ (s : Sheet). s.values) taken.ends in (
       stands,
       taken.each,

@@ -1,11 +1,10 @@
 -- The two laws of the book: it leaves nothing open, and the values of a reduced form lead back to it. Assumes nothing.
-use Rattle.std.proofs.Common.{◌≡◌, ℕ, zero, suc, ◌%◌, ◌^◌, ◌<◌, ◌≤◌, List, [], ◌∷◌, ◌++◌, map, length, get_or, Ok, Err, Result, sym, refl, ap, ◌∙◌, subst, arith}
-use Rattle.std.proofs.lemmas.List.{same_from_push, map_push, length_push, get_or_push, get_or_append_left}
+use Rattle.std.proofs.Common.{◌≡◌, ℕ, suc, ◌%◌, ◌^◌, ◌<◌, List, [], ◌∷◌, ◌++◌, length, get_or, Ok, Err, Result, sym, refl, ap, ◌∙◌, subst, arith}
+use Rattle.std.proofs.lemmas.List.{same_from_push}
 use Rattle.modulus.specs.Moduli.{Listed}
 use Rattle.modulus.specs.declared.refusal.Refusal.{Refusal}
 use Rattle.modulus.specs.declared.refusal.Refusal.TheVariants.{ShortBuffer}
 use Rattle.poly.specs.Reduced.{Reduced, Reported, value_at, standing}
-use Rattle.poly.proofs.Points.{below_suc}
 use Rattle.poly.proofs.Standing.{length-standing, form_length-past}
 use Rattle.poly.proofs.Reports.{reported, reported-unique}
 use Rattle.fit.specs.Rules.{NoOffer, Offered}
@@ -19,8 +18,9 @@ use Rattle.planner.specs.declared.kind.Kind.{Kind}
 use Rattle.planner.proofs.Plans.{one_plan}
 use Rattle.rack.specs.Runs.{Meaning}
 use Rattle.rack.proofs.Running.{no_run_same, runs_same}
-use Rattle.full_desk.specs.Book.{Asked, offer, Told, accepts, withdrew, wrote, ran, sheet, fresh, with_values, with_plan, Desk, desk, with_sheet, with_trays, begins, part, room, written, Refuses, refuses_offer, refuses_withdrawal, refuses_plan, refuses_run, Gives, stands_now, goes, issued, run_through, Due, turned_away, answered, Book, closed, entry}
+use Rattle.full_desk.specs.Book.{Asked, offer, Told, accepts, withdrew, wrote, ran, sheet, with_values, with_plan, Desk, desk, with_sheet, with_trays, begins, part, room, written, Refuses, refuses_offer, refuses_withdrawal, refuses_plan, refuses_run, Gives, stands_now, goes, issued, run_through, Due, turned_away, answered, Book, closed, entry}
 use Rattle.full_desk.specs.Law.{Decided, LeadsBack, accepted}
+use Rattle.desk.proofs.Walks.{Walk, done, step, walks_same, values-taken}
 
 -- ---- one refusal for one use
 pub no_plan_same : (p e : ℕ) (ys : List ℕ) (most : ℕ) (kind : Kind) (f g : Refusal) → NoPlan p e ys most kind f → NoPlan p e ys most kind g → f ≡ g
@@ -74,42 +74,13 @@ due_same d u a b t t' (answered {a = x} l h) (answered {a = z} r k) =
     let same : (x ≡ z) × (t ≡ t') = gives_same d u x z t t' h k in
     (ap (λ (q : Told). Ok q) same.0, same.1)
 
-pub books_same : (us : List Asked) (d end end' : Desk) (answers answers' : List (Result Told Refusal)) → Book d us answers end → Book d us answers' end'
-    → (answers ≡ answers') × (end ≡ end')
-books_same [] d end end' answers answers' closed closed = (refl, refl)
-books_same (u ∷ us) d end end' answers answers' (entry {t} {a} {rest} h hs) (entry {t = t'} {a = b} {rest = rest'} k ks) =
-    let first : (a ≡ b) × (t ≡ t') = due_same d u a b t t' h k in
-    let others : (rest ≡ rest') × (end ≡ end') = books_same us t' end end' rest rest' (subst (λ (x : Desk). Book x us rest end) first.1 hs) ks in
-    (ap (λ (x : Result Told Refusal). x ∷ rest) first.0 ∙ ap (λ (l : List (Result Told Refusal)). b ∷ l) others.0, others.1)
+-- a book is a walk by what is due
+walk : {d end : Desk} {us : List Asked} {answers : List (Result Told Refusal)} → Book d us answers end → Walk Due d us answers end
+walk closed = done
+walk (entry first rest) = step first (walk rest)
 
 pub decided : Decided
-decided s end end' us answers answers' h k = books_same us s end end' answers answers' h k
-
--- ---- the last entry of a book
--- a book over us and then u, parted before u
-pub record Last (s : Desk) (us : List Asked) (u : Asked) (answers : List (Result Told Refusal)) (end : Desk) : Type 0 where
-  pub mid : Desk
-  pub before : List (Result Told Refusal)
-  pub last : Result Told Refusal
-  pub book : Book s us before mid
-  pub due : Due mid u last end
-  pub is : answers ≡ before ++ last ∷ []
-
-pub book-none : (s end : Desk) (answers : List (Result Told Refusal)) → Book s [] answers end → (answers ≡ []) × (end ≡ s)
-book-none s end answers closed = (refl, refl)
-
-pub book-last : (us : List Asked) (u : Asked) (s end : Desk) (answers : List (Result Told Refusal)) → Book s (us ++ u ∷ []) answers end → Last s us u answers end
-book-last [] u s end answers (entry {a} h closed) = record { mid = s; before = []; last = a; book = closed; due = h; is = refl }
-book-last (v ∷ us) u s end answers (entry {t} {a} {rest} h hs) =
-    let l : Last t us u rest end = book-last us u t end rest hs in
-    record {
-      mid = l.mid;
-      before = a ∷ l.before;
-      last = l.last;
-      book = entry h l.book;
-      due = l.due;
-      is = ap (λ (x : List (Result Told Refusal)). a ∷ x) l.is;
-    }
+decided s end end' us answers answers' h k = walks_same Due due_same us s end end' answers answers' (walk h) (walk k)
 
 -- an offer that no rule refuses is accepted
 pub due_offer : (d : Desk) (y : ℕ) (a : Result Told Refusal) (end : Desk)
@@ -137,40 +108,12 @@ offer-accepted p e h d r n l steps out trays a end k =
     got.1.reports.2 ∙ ap (λ (i : ℕ). get_or c i 0) here ∙ coefficient-reported p e h d r n c got.1.reports.1 in
     (got.2 ∙ ap (λ (q : Accepted). Ok (accepts q)) (accepted-same x (record { place = n; coefficient = get_or d n 0 }) here coefficient), got.3)
 
--- what a book of the first n values ends with and answers
-pub record Taken (p e : ℕ) (d : List ℕ) (n : ℕ) (steps : List Step) (out : ℕ) (trays : List Meaning) (answers : List (Result Told Refusal)) (end : Desk) : Type 0 where
-  pub ends : end ≡ holding p e d n steps out trays
-  pub long : length answers ≡ n
-  pub each : (i : ℕ) → i < n → get_or answers i (accepted 0 0) ≡ accepted i (get_or d i 0)
-
-pub values-taken : (p e : ℕ) → Listed p e → (d : List ℕ) → Reduced p e d → (n : ℕ) → n ≤ p ^ e → (steps : List Step) (out : ℕ) (trays : List Meaning) (answers : List (Result Told Refusal)) (end : Desk)
-    → Book (desk (fresh p e) steps out trays) (map offer (standing (p ^ e) d n)) answers end → Taken p e d n steps out trays answers end
-values-taken p e h d r zero l steps out trays answers end k =
-    let empty = book-none (desk (fresh p e) steps out trays) end answers k in
-    record { ends = empty.1; long = ap (λ (x : List (Result Told Refusal)). length x) empty.0; each = λ i b. absurd (omega arith) }
-values-taken p e h d r (suc n) l steps out trays answers end k =
-    let y : ℕ = value_at d n % p ^ e in
-    let ys : List ℕ = standing (p ^ e) d n in
-    let split : Last (desk (fresh p e) steps out trays) (map offer ys) (offer y) answers end =
-    book-last (map offer ys) (offer y) (desk (fresh p e) steps out trays) end answers
-    (subst (λ (us : List Asked). Book (desk (fresh p e) steps out trays) us answers end) (map_push (λ (x : ℕ). offer x) ys y) k) in
-    let earlier : Taken p e d n steps out trays split.before split.mid = values-taken p e h d r n (omega arith) steps out trays split.before split.mid split.book in
-    let now : (split.last ≡ accepted n (get_or d n 0)) × (end ≡ holding p e d (suc n) steps out trays) =
-    offer-accepted p e h d r n (omega arith) steps out trays split.last end (subst (λ (s : Desk). Due s (offer y) split.last end) earlier.ends split.due) in
-    record {
-      ends = now.1;
-      long = omega (arith, ap (λ (x : List (Result Told Refusal)). length x) split.is, length_push split.before split.last, earlier.long);
-      each = λ i b.
-          ap (λ (x : List (Result Told Refusal)). get_or x i (accepted 0 0)) split.is
-          ∙ below_suc (λ (i : ℕ). get_or (split.before ++ split.last ∷ []) i (accepted 0 0) ≡ accepted i (get_or d i 0)) n
-          (λ i b. get_or_append_left split.before (split.last ∷ []) (accepted 0 0) i (omega (arith, earlier.long)) ∙ earlier.each i b)
-          (get_or_push split.before split.last (accepted 0 0) n earlier.long ∙ now.0)
-          i b;
-    }
-
 pub leads_back : LeadsBack
 leads_back p e h d r n l steps out trays answers end k =
-    let taken : Taken p e d n steps out trays answers end = values-taken p e h d r n l steps out trays answers end k in
+    let told = λ (i : ℕ). accepted i (get_or d i 0) in
+    let held = λ (i : ℕ). holding p e d i steps out trays in
+    let one = λ (i : ℕ) (b : i < p ^ e). offer-accepted p e h d r i b steps out trays in
+    let taken = values-taken Due (p ^ e) d (λ (y : ℕ). offer y) held told (accepted 0 0) (p ^ e) one n l answers end (walk k) in
     let stands : end.sheet.values ≡ standing (p ^ e) d n = ap (λ (s : Desk). s.sheet.values) taken.ends in (
       stands,
       taken.each,

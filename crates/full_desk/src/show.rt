@@ -10,7 +10,10 @@ impl<E: Open> fmt::Display for Use<E> {
             Use::Offer { value } => write!(f, "offer {value}"),
             Use::Withdraw => write!(f, "withdraw"),
             Use::Plan { kind, start, count } => {
-                write!(f, "plan, {kind}, {count} steps of the buffer from {start} on")
+                write!(
+                    f,
+                    "plan, {kind}, {count} steps of the buffer from {start} on"
+                )
             }
             Use::Run {
                 p,
