@@ -1,7 +1,7 @@
 // What can be asked at a desk, and what is answered.
 use fit::table::offer::Accepted;
 
-// One use of the desk.
+// One use of the desk. There are no other uses, so a `match` picks the call: a list of uses is data, which closures are not.
 #[derive(Clone, Copy, Debug)]
 pub enum Use {
     // Offer a value for the next place.

@@ -3,7 +3,7 @@ use fit::table::offer::Accepted;
 use plan::cost::Price;
 use planner::kind::Kind;
 
-// One use of the desk, with elements of one kind.
+// One use of the desk, with elements of one kind. There are no other uses, so a `match` picks the call: a list of uses is data, which closures are not.
 #[derive(Clone, Copy)]
 pub enum Use<E> {
     // Offer a value for the next place.

@@ -11,6 +11,7 @@ use modulus::listed::Modulus;
 use modulus::refusal::Refusal;
 use plan::check::STEPS;
 use plan::cost::Price;
+use plan::step::Step;
 use planner::issue::{LARGEST_BLOCK, plan};
 use planner::kind::Kind;
 use rack::rack::Rack;
@@ -18,7 +19,7 @@ use rack::tally::Tally;
 use shown::counts::PrimeCounts;
 use shown::lists::{Outcome, Uses};
 use shown::polynomials::Report;
-use shown::steps::{BLANK, Checked, Steps};
+use shown::steps::{Checked, Steps};
 use shown::tables::{COMPARISONS, NULL_POLYNOMIALS, PRIMES, SQUARE, TABLES, Table, UNLISTED};
 
 // A table of as many values as the modulus.
@@ -33,7 +34,7 @@ const INDENT: &str = "    ";
 
 // The plan of this kind for what stands: what it costs, and its steps.
 fn print_plan(rt: &HostRuntime, fit: &Fit, kind: Kind) -> anyhow::Result<()> {
-    let mut buffer = [BLANK; STEPS];
+    let mut buffer = [Step::default(); STEPS];
     print!(rt; "  {kind}: ")?;
     match plan(fit, kind, &mut buffer) {
         Ok(price) => {
@@ -59,7 +60,7 @@ fn is_cheaper(one: Price, other: Price) -> bool {
 
 // What the block plan of this size costs.
 fn block_price(fit: &Fit, size: usize) -> Result<Price, Refusal> {
-    let mut buffer = [BLANK; STEPS];
+    let mut buffer = [Step::default(); STEPS];
     plan(fit, Kind::Block { size }, &mut buffer)
 }
 
@@ -91,7 +92,7 @@ fn print_plans(rt: &HostRuntime, fit: &Fit) -> anyhow::Result<()> {
 fn judge(rt: &HostRuntime, p: u32, e: u32, uses: &[Use<Bare>]) -> anyhow::Result<()> {
     println!(rt; "modulo {p}^{e}")?;
     let mut fit = Fit::new();
-    let mut steps = [BLANK; STEPS];
+    let mut steps = [Step::default(); STEPS];
     let mut trays: [Bare; 0] = [];
     let mut rack = Rack::new(&mut trays);
     let mut tally = Tally::new();

@@ -16,18 +16,9 @@ use fit::table::Fit;
 use modulus::listed::PLACES;
 use modulus::refusal::Refusal;
 use plan::check::STEPS;
-use plan::step::{Op, Step};
+use plan::step::Step;
 use planner::issue::plan;
 use planner::kind::Kind;
-
-// What a step buffer has before a plan is written.
-const BLANK: Step = Step {
-    op: Op::Add,
-    to: 0,
-    a: 0,
-    b: 0,
-    k: 0,
-};
 
 // Offers the values in their order until one is refused, and refuses as that one does. The index is for the proof: its invariant speaks of the values from there on.
 fn offer_all(fit: &mut Fit, values: &[u32]) -> Result<(), Refusal>
@@ -44,7 +35,7 @@ fn offer_all(fit: &mut Fit, values: &[u32]) -> Result<(), Refusal>
 fn ladder_multiplications(fit: &Fit) -> usize
     ensures { (ladder : List StepOf) × Planned fit.now.modulus.prime fit.now.modulus.exponent (stands fit.now) Kind.Ladder ladder × (result ≡ multiplications_of ladder) }
 {
-    let mut steps = [BLANK; STEPS];
+    let mut steps = [Step::default(); STEPS];
     let price = plan(fit, Kind::Ladder, &mut steps).unwrap();
     price.multiplications as usize
 }

@@ -25,6 +25,9 @@ power_small p (suc k) le =
 pub power_fits : (p k : ℕ) → k ≤ greatest p → p ^ k < 2 ^ 32
 power_fits p k le = omega (arith, power_small p k le)
 
+pub prime-small : (p : ℕ) → 1 ≤ greatest p → p ≤ 17
+prime-small = by_prime (λ (p : ℕ). p ≤ 17) (lit≤ tt) (lit≤ tt) (lit≤ tt) (lit≤ tt) (lit≤ tt) (lit≤ tt) (lit≤ tt)
+
 pub greatest-small : (p : ℕ) → 1 ≤ greatest p → greatest p ≤ 16
 greatest-small = by_prime (λ (p : ℕ). greatest p ≤ 16) (lit≤ tt) (lit≤ tt) (lit≤ tt) (lit≤ tt) (lit≤ tt) (lit≤ tt) (lit≤ tt)
 

@@ -1,6 +1,6 @@
 // Steps.
 
-// What a step does.
+// What a step does. There are no other kinds, so a `match` picks what is run: a closure or a trait object would hide that all cases are met.
 #[derive(Clone, Copy, PartialEq, Eq, Debug, Default)]
 pub enum Op {
     // The sum of two trays.

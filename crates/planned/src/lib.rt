@@ -56,8 +56,8 @@ mod tests {
         trays[0] = x;
         let mut answer = x;
         for s in steps {
-            let a = trays[s.a as usize];
-            let b = trays[s.b as usize];
+            let a = trays[usize::from(s.a)];
+            let b = trays[usize::from(s.b)];
             let k = u32::from(s.k);
             let result = match s.op {
                 Op::Add => a.wrapping_add(b),
@@ -66,7 +66,7 @@ mod tests {
                 Op::Shift => a.wrapping_add(k),
             };
             answer = result.checked_rem(m).unwrap_or(0);
-            trays[s.to as usize] = answer;
+            trays[usize::from(s.to)] = answer;
         }
         answer
     }

@@ -1,8 +1,8 @@
 -- Lists that have the coefficients of a polynomial modulo m: falling factorials, sums of terms, forms, and a list in powers of X turned into a form.
 -- Assumes nothing.
-use Rattle.std.proofs.Common.{◌≡◌, ℕ, zero, suc, ◌+◌, ◌*◌, ◌%◌, ◌<◌, ◌≤◌, List, [], ◌∷◌, length, get_or, take, replicate, ℤ, pos, ◌+ℤ◌, neg_ℤ, Ok, Err, Result, sym, ap, ◌∙◌, subst, mod-lt, add-one, arith, MatchResult}
+use Rattle.std.proofs.Common.{◌≡◌, ℕ, zero, suc, ◌+◌, ◌-◌, ◌*◌, ◌%◌, ◌<◌, ◌≤◌, List, [], ◌∷◌, length, get_or, take, drop, replicate, ℤ, pos, ◌+ℤ◌, neg_ℤ, Ok, Err, Result, sym, ap, ◌∙◌, subst, mod-lt, add-one, arith, MatchResult}
 use native.Mathlib.Nat.{zero-mod}
-use Rattle.std.proofs.lemmas.List.{length-take-le}
+use Rattle.std.proofs.lemmas.List.{drop_more, length-take-le}
 use Rattle.modulus.specs.Congruence.{Cong}
 use Rattle.modulus.specs.declared.refusal.Refusal.{Refusal}
 use Rattle.modulus.proofs.Congruences.{cong_refl, cong_path, cong_sym, cong_trans, cong_add, cong_mul, cong_mod}
@@ -135,6 +135,21 @@ newton_next m a n f ks room held clear =
     (λ k. cong_trans (cong_path m (ap pos (shifted_next m a 0 1 ks (λ j le. clear j (omega arith)) k)))
     (cong_trans (cong_sym (cong_mod m (get_or ks k 0 + (0 + 1 * suc k) * get_or ks (suc k) 0)))
     (cong_path m (ap (λ (t : ℕ). pos (get_or ks k 0 + t * get_or ks (suc k) 0)) (let e : 0 + 1 * suc k ≡ suc k = omega arith in e)))))
+
+-- and so in a walk from the end of the list to its start
+pub newton_walk : (m i : ℕ) (xs ks ls : List ℕ) → 0 < i → i ≤ length xs → length xs - i < length ks
+    → ((k : ℕ) → Cong m (pos (get_or ks k 0)) (to_newton ordinary (ints (drop i xs)) k)) → ((k : ℕ) → length xs - i ≤ k → get_or ks k 0 ≡ 0)
+    → ls ≡ shifted m (get_or xs (i - 1) 0) 0 1 ks
+    → ((k : ℕ) → Cong m (pos (get_or ls k 0)) (to_newton ordinary (ints (drop (i - 1) xs)) k)) × ((k : ℕ) → length xs - (i - 1) ≤ k → get_or ls k 0 ≡ 0)
+newton_walk m i xs ks ls some le room held clear is =
+    let a : ℕ = get_or xs (i - 1) 0 in
+    let back : i - 1 + 1 ≡ i = omega arith in
+    let front : drop (i - 1) xs ≡ a ∷ drop i xs = drop_more xs (i - 1) 0 (omega arith) ∙ ap (λ (j : ℕ). a ∷ drop j xs) back in
+    let one : length xs - (i - 1) ≡ suc (length xs - i) = omega arith in (
+      λ k. cong_trans (cong_path m (ap (λ (ys : List ℕ). pos (get_or ys k 0)) is))
+          (cong_trans (newton_next m a (length xs - i) (ints (drop i xs)) ks room held clear k) (cong_path m (ap (λ (ys : List ℕ). to_newton ordinary (ints ys) k) (sym front)))),
+      λ k h. ap (λ (ys : List ℕ). get_or ys k 0) is ∙ shifted-clear m a 0 1 ks (length xs - i) room clear k (omega arith),
+    )
 
 -- ---- a form that is short enough and fits the buffer is not refused
 not_refused : (n room : ℕ) (f : Refusal) → n ≤ 64 → n ≤ room → NoPowers n room f → ⊥

@@ -16,7 +16,7 @@ use planner::kind::Kind;
 use rack::rack::Rack;
 use rack::run::run;
 use rack::tally::Tally;
-use shown::steps::{BLANK, Steps};
+use shown::steps::Steps;
 use std::fmt::Display;
 
 // The modulus 2 ^ 3.
@@ -158,14 +158,14 @@ fn written<'a>(
 
 // The ladder for what stands, and its runs.
 fn ladder(rt: &HostRuntime, fit: &Fit) -> anyhow::Result<()> {
-    let mut buffer = [BLANK; STEPS];
+    let mut buffer = [Step::default(); STEPS];
     let steps = written(rt, fit, Kind::Ladder, &mut buffer)?;
     kinds(rt, steps)
 }
 
 // The block plan of size 2 for what stands, and a run that gives what the ladder gave.
 fn block(rt: &HostRuntime, fit: &Fit) -> anyhow::Result<()> {
-    let mut buffer = [BLANK; STEPS];
+    let mut buffer = [Step::default(); STEPS];
     let steps = written(rt, fit, Kind::Block { size: 2 }, &mut buffer)?;
     println!(rt; "a run of the block plan, on a rack of {TRAYS} trays")?;
     twin(rt, steps)

@@ -2,17 +2,8 @@
 use modulus::listed::Modulus;
 use plan::check::{first_bad, trays};
 use plan::cost::cost;
-use plan::step::{Op, Step};
+use plan::step::Step;
 use std::fmt;
-
-// A step that fills a buffer before a plan is written into it.
-pub const BLANK: Step = Step {
-    op: Op::Add,
-    to: 0,
-    a: 0,
-    b: 0,
-    k: 0,
-};
 
 // A line for each step, with its number, behind the indent.
 #[derive(Clone, Copy)]
