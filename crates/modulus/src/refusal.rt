@@ -32,7 +32,7 @@ pub enum Refusal {
 }
 
 impl Refusal {
-    // The refusal's number, 1 to 12.
+    // The refusal's number, 1 to 12. A table, since `as` takes no enum whose variants have fields.
     pub fn number(&self) -> u8
         ensures { result ≡ number_of self.now }
     {
