@@ -1,4 +1,4 @@
--- The depths of the trays before the first step, and from step to step. Assumes nothing.
+-- What a step list costs, step by step. Assumes nothing.
 use Rattle.std.proofs.Common.{◌≡◌, ℕ, zero, suc, ◌+◌, ◌*◌, ◌<◌, ◌≤◌, max, List, length, get_or, drop, set, replicate, sym, ap, ◌∙◌, subst, arith}
 use native.Mathlib.Decide.{ℕ_discrete}
 use Rattle.std.proofs.lemmas.List.{drop_more, length-set, get_or-set_same, get_or-set_other}
@@ -14,7 +14,6 @@ depth-bound multiply scale b depths s Multiply h = omega (arith, h s.a, h s.b)
 depth-bound multiply scale b depths s Scale h = omega (arith, h s.a)
 depth-bound multiply scale b depths s Shift h = omega (arith, h s.a)
 
--- a tray that was never written has depth 0
 pub zeros_small : (n b t : ℕ) → get_or {A = ℕ} (replicate n 0) t 0 ≤ b
 zeros_small zero b t = omega arith
 zeros_small (suc n) b zero = omega arith
