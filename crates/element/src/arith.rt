@@ -1,4 +1,4 @@
-// Arithmetic of one lane under a modulus.
+// Arithmetic of one lane under a modulus. A number below the modulus fits 16 bits, which the check shows of each cast; `try_from` would have a refusal that never comes.
 ghost use Rattle.std.specs.Prelude.{◌≡◌, ◌+◌, ◌*◌, ◌/◌, ◌%◌};
 
 use modulus::listed::Modulus;

@@ -21,50 +21,42 @@ mod tests {
 
     // A kind of which the tests make elements: by three numbers, of which a kind with fewer lanes takes the first ones.
     trait Made: Open {
-        fn made(lanes: [u16; 3]) -> Self;
-
         // How many lanes the kind has.
-        fn width() -> usize;
+        const WIDTH: usize;
+
+        fn made(lanes: [u16; 3]) -> Self;
     }
 
     impl Made for Bare {
+        const WIDTH: usize = 1;
+
         fn made(lanes: [u16; 3]) -> Bare {
             Bare::new(lanes[0])
-        }
-
-        fn width() -> usize {
-            1
         }
     }
 
     impl Made for Twin {
+        const WIDTH: usize = 2;
+
         fn made(lanes: [u16; 3]) -> Twin {
             Twin::new(lanes[0], lanes[1])
-        }
-
-        fn width() -> usize {
-            2
         }
     }
 
     impl Made for Triple {
+        const WIDTH: usize = 3;
+
         fn made(lanes: [u16; 3]) -> Triple {
             Triple::new(lanes[0], lanes[1], lanes[2])
-        }
-
-        fn width() -> usize {
-            3
         }
     }
 
     // At level 1: one multiplication is answered.
     impl<E: Made> Made for Levelled<E> {
+        const WIDTH: usize = E::WIDTH;
+
         fn made(lanes: [u16; 3]) -> Levelled<E> {
             Levelled::new(E::made(lanes), 1)
-        }
-
-        fn width() -> usize {
-            E::width()
         }
     }
 
@@ -79,7 +71,7 @@ mod tests {
 
     // The element shows these lanes, as many as its kind has, and none above.
     fn check_lanes<E: Made>(rt: &impl Abort, x: E, lanes: [u16; 3]) {
-        let width = E::width();
+        let width = E::WIDTH;
         for (i, lane) in lanes.iter().enumerate() {
             assert_eq!(rt; x.lane(i), if i < width { Some(*lane) } else { None });
         }
