@@ -38,15 +38,11 @@ fn print_plan(rt: &HostRuntime, fit: &Fit, kind: Kind) -> anyhow::Result<()> {
     print!(rt; "  {kind}: ")?;
     match plan(fit, kind, &mut buffer) {
         Ok(price) => {
-            println!(rt; "{price}")?;
-            let steps = &buffer[..price.steps];
-            print!(rt;
-                "{}",
-                Steps {
-                    indent: INDENT,
-                    steps
-                }
-            )?;
+            let steps = Steps {
+                indent: INDENT,
+                steps: &buffer[..price.steps],
+            };
+            print!(rt; "{price}\n{steps}")?;
         }
         Err(refusal) => println!(rt; "{refusal}")?,
     }
