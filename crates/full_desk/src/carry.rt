@@ -11,7 +11,7 @@ ghost use Rattle.planner.specs.Plans.{Issued, NoPlan, Priced};
 ghost use Rattle.rack.specs.Runs.{NoRun, Runs, meaning_of, meanings};
 
 use crate::uses::{Answer, Use};
-use desk::carry::Stopped;
+pub use desk::carry::Stopped;
 use element::rules::Element;
 use fit::table::Fit;
 use modulus::refusal::Refusal;

@@ -1,10 +1,9 @@
 // Takes worked tables through fits, plans and runs, and prints what was answered.
 #![tactic(auto)]
 
-use desk::carry::Stopped;
 use element::bare::Bare;
 use fit::table::Fit;
-use full_desk::carry::carry_out;
+use full_desk::carry::{Stopped, carry_out};
 use full_desk::uses::Use;
 use modulus::count::count;
 use modulus::listed::Modulus;

@@ -109,6 +109,7 @@ mod tests {
         let modulus = Modulus::new(p, e)?;
         let mut reduced = [0u16; PLACES];
         let length = reduce(p, e, list, &mut reduced)?;
+        assert!(rt; length <= PLACES);
         for x in 0..modulus.value() {
             let form = evaluate(&modulus, &reduced[..length], x as u16);
             assert_eq!(rt;

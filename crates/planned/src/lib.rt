@@ -97,6 +97,7 @@ mod tests {
     fn check_plan(rt: &impl Abort, fit: &Fit, kind: Kind, values: Values<'_>) -> Result<(), Fail> {
         let mut buffer = [FILL; STEPS];
         let price = plan(fit, kind, &mut buffer)?;
+        assert!(rt; price.steps <= STEPS);
         let steps = &buffer[..price.steps];
         assert!(rt; first_bad(&fit.modulus(), steps).is_none());
         assert_eq!(rt; cost(steps)?, price);
