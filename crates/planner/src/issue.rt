@@ -1,5 +1,5 @@
 // Plans written for what stands in a fit.
-ghost use Rattle.std.specs.Prelude.{◌≡◌, ℕ, ◌<◌, ◌≤◌, length, take, drop, MatchResult};
+ghost use Rattle.std.specs.Prelude.{◌≡◌, ℕ, ◌≤◌, length, take, drop, MatchResult};
 ghost use Rattle.fit.specs.Standing.{WrittenPowers, stands};
 ghost use Rattle.planner.specs.Plans.{Issued, NoPlan, Priced};
 ghost use Rattle.poly.specs.Reduced.{form_length};
