@@ -17,7 +17,7 @@ pub struct Lanes<const N: usize> {
     ghost small: { (i : ℕ) → slice_index lanes i < 65536 },
 }
 
-// The loops count places: what `array::from_fn` and `map` ensure of N calls leaves open in which state of the closure each is made.
+// The loops go over the places: `array::from_fn` was tried, and its proof didn't close, since at a parameter N its clause says of a place only that some state of the closure was called.
 impl<const N: usize> Lanes<N> {
     // Each lane is made by `f` of the one in its place.
     fn each<F: Fn(u16) -> u16>(self, f: F) -> Lanes<N>
