@@ -1,10 +1,11 @@
 -- What one coefficient more, and one less, makes of a fit. Assumes nothing.
-use Rattle.std.proofs.Common.{◌≡◌, ℕ, suc, ◌+◌, ◌*◌, ◌%◌, ◌^◌, ◌<◌, ◌≤◌, List, [], ◌∷◌, ◌++◌, length, get_or, take, pos, sym, refl, ap, ◌∙◌, subst, add-one, arith}
+use Rattle.std.proofs.Common.{◌≡◌, ℕ, suc, ◌+◌, ◌*◌, ◌%◌, ◌^◌, ◌<◌, ◌≤◌, List, [], ◌∷◌, ◌++◌, length, get_or, take, pos, Ok, Err, Result, sym, refl, ap, ◌∙◌, subst, add-one, arith, MatchResult}
 use native.Mathlib.Decide.{dec_le, ℕ_discrete}
 use Rattle.modulus.specs.Bounds.{factorial}
 use Rattle.modulus.specs.Congruence.{Cong}
 use Rattle.modulus.specs.declared.listed.Modulus.{Modulus}
 use Rattle.poly.specs.Polynomial.{Fits}
+use Rattle.poly.specs.Powers.{NoPowers, long, short}
 use Rattle.poly.specs.Reduced.{Reported, standing, value_at}
 use Rattle.poly.proofs.Reports.{extended, fits-standing, reported}
 use Rattle.poly.proofs.Standing.{length-standing, standing-same, front_same}
@@ -73,6 +74,16 @@ reports f cs same =
 -- so the front that is as long as a report does
 pub front_reports : (f : Fit) (n : ℕ) → n ≡ report_length f → Reported f.modulus.prime f.modulus.exponent (stands f) (take n f.coefficients)
 front_reports f n e = reports f (take n f.coefficients) (front_same f.coefficients n (past-report f n e))
+
+-- ---- powers of X for a buffer that is long enough
+-- a form that fits the buffer is not refused
+pub never : (n room : ℕ) (f : Refusal) → n ≤ 64 → n ≤ room → NoPowers n room f → ⊥
+never n room f few fits (long h) = omega arith
+never n room f few fits (short h k) = omega arith
+
+pub answered : (r : Result ℕ Refusal) (P : ℕ → Type 0) (Q : Refusal → Type 0) → MatchResult r P Q → ((f : Refusal) → Q f → ⊥) → (n : ℕ) × P n
+answered (Ok n) P Q h no-err = (n, h)
+answered (Err f) P Q h no-err = absurd (no-err f h)
 
 -- ---- the refusals of an offer to a fit
 is-full : (m n y : ℕ) (ys : List ℕ) → length ys ≡ n → n ≡ m → NoOffer m ys y (Full n)

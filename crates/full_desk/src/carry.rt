@@ -25,7 +25,7 @@ use rack::tally::Tally;
 use std::alloc::Global;
 use std::ops::Range;
 
-// The places of a part of a buffer of this length, as far as the buffer goes.
+// The places of a part of a buffer of this length, as far as the buffer goes. A start and a count, as a use names them; a range could end before it begins.
 fn part_of(length: usize, start: usize, count: usize) -> Range<usize>
     ensures start { result.start ≡ min start length }
     ensures end { result.end ≡ result.start + min count (length - result.start) }

@@ -8,7 +8,7 @@ use Rattle.std.specs.Str.Parse.{AllDigits, digits_value as value}
 use Rattle.std.specs.Char.{digit_value}
 use Rattle.std.specs.Int.{IsInRange}
 use Rattle.std.specs.Result.{OkIff, result_ok}
-use Rattle.job.specs.Reading.{Ends, NoLine, NoNumber, NumberThen}
+use Rattle.job.specs.Reading.{Ends, LineThen, NoLine, NoNumber, NumberThen}
 use Rattle.job.specs.Text.{Short, number_line}
 
 pub own : IsNumeralModel (AllDigits 10) (value 10)
@@ -91,7 +91,16 @@ line_parts key n rest = simp append_assoc
 pub ends-line : (rest : List ℕ) → Ends (10 ∷ rest)
 ends-line rest low high = omega arith
 
+-- no line stands where the key does not
+pub no_key : (text key : List ℕ) → ((rest : List ℕ) → text ≡ key ++ rest → ⊥) → NoLine text key
+no_key text key none n rest short e = none (decimal n ++ 10 ∷ rest) (e ∙ line_parts key n rest)
+
 module _ (text key left : List ℕ) (has : text ≡ key ++ left) where
+  -- a number behind the key, and the byte 10 behind that, are a line
+  pub line_here : (value : ℕ) (rest : List ℕ) → NumberThen left value (10 ∷ rest) → LineThen text key value rest
+  line_here value rest found =
+      record { short = found.short; is = has ∙ ap (λ (xs : List ℕ). key ++ xs) found.is ∙ sym (line_parts key value rest) }
+
   behind_key : (n : ℕ) (rest : List ℕ) → text ≡ number_line key n ++ rest → left ≡ decimal n ++ 10 ∷ rest
   behind_key n rest e = append_cancel_left key left (decimal n ++ 10 ∷ rest) (sym has ∙ e ∙ line_parts key n rest)
 

@@ -1,5 +1,5 @@
 -- The figures of a fit and the page of a job: no call that writes the figures is refused, and what they write makes the report. Assumes nothing.
-use Rattle.std.proofs.Common.{◌≡◌, ℕ, ◌^◌, min, List, [], ◌++◌, length, take, Ok, Err, Option, Result, sym, refl, ap, ◌∙◌, subst, arith, MatchResult}
+use Rattle.std.proofs.Common.{◌≡◌, ℕ, ◌^◌, ◌<◌, ◌≤◌, min, List, [], ◌++◌, length, take, Ok, Err, Option, Result, sym, refl, ap, ◌∙◌, subst, arith, MatchResult}
 use Rattle.std.proofs.lemmas.List.{append-nil, drop_all, take_all}
 use Rattle.std.specs.List.{refill}
 use Rattle.std.specs.Result.{IsOk}
@@ -29,6 +29,12 @@ use Rattle.job.specs.declared.page.Figures.{Figures}
 pub answered : {T E : Type 0} (r : Result T E) (P : T → Type 0) (Q : E → Type 0) → MatchResult r P Q → ((e : E) → Q e → ⊥) → IsOk r
 answered (Ok x) P Q h never = refl
 answered (Err e) P Q h never = absurd (never e h)
+
+-- a buffer with room is not refused as too short
+pub not_short : (needed room : ℕ) (r : Result ℕ Refusal) (P : ℕ → Type 0) (Q R : Refusal → Type 0) → needed ≤ room
+    → MatchResult r P (λ (f : Refusal). Q f × (room < needed) × R f) → (n : ℕ) × (r ≡ Ok n) × P n
+not_short needed room (Ok n) P Q R fits h = (n, refl, h)
+not_short needed room (Err f) P Q R fits (is, short, same) = absurd (omega arith)
 
 -- every ladder has room in 160 steps
 pub ladder-fits : (p e : ℕ) → Listed p e → (ys : List ℕ) (f : Refusal) → NoPlan p e ys 160 Ladder f → ⊥

@@ -93,7 +93,7 @@ mod tests {
         assert_eq!(rt; &buffer[..5], [0, 1, 0, 1, 7].as_slice());
     }
 
-    // The value at x, modulo m, of the polynomial with these coefficients in powers of X.
+    // The value at x, modulo m, of the polynomial with these coefficients in powers of X. No m is 0: a test has no clause that could say so.
     fn value(list: &[u32], x: u64, m: u64) -> u64 {
         list.iter().rev().fold(0, |value: u64, c| {
             value

@@ -32,7 +32,7 @@ mod tests {
     }
 
     impl Values<'_> {
-        // The value at x. Nothing wraps: x and n are at most 65,536.
+        // The value at x. Nothing wraps: x and n are at most 65,536. No n is 0: a test has no clause that could say so.
         fn at(&self, x: u32) -> u32 {
             self.list.iter().rev().fold(0, |value: u32, c| {
                 value
@@ -50,7 +50,7 @@ mod tests {
         n: 8,
     };
 
-    // What the steps answer modulo m for the input x, which tray 0 has: what the last of them writes.
+    // What the steps answer modulo m, which is not 0, for the input x, which tray 0 has: what the last of them writes.
     fn run(m: u32, steps: &[Step], x: u32) -> u32 {
         let mut trays = [0u32; 256];
         trays[0] = x;

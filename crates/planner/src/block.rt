@@ -25,6 +25,7 @@ fn power(i: u8) -> Step
     multiply(i, (i + 1) / 2 - 1, (i + 2) / 2 - 1)
 }
 
+// The draft and the coefficients stay two parameters of the methods: a struct that borrows both would have to say of each loan that its lender stays.
 impl Size {
     // Refuses a block that has no coefficient or more than 8.
     pub(crate) fn new(size: usize) -> Result<Size, Refusal>

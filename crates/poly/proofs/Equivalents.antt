@@ -163,9 +163,10 @@ pub null_example : Null 4 (pos 0 ∷ pos 2 ∷ pos 2 ∷ [])
 null_example x = record { times = pos (triangle x).0; is = ap (λ (n : ℕ). pos (0 + n)) (triangle x).1 }
 
 -- ---- remainders by the bounds of a Newton form that is not reduced yet, at all of n places
-pub reduces_remainders : (p e m u n : ℕ) → Listed p e → m ≡ p ^ e → Mu p e u → u ≤ n → (f : List ℤ) (ks c : List ℕ) → length c ≡ n
-    → ((k : ℕ) → Cong m (pos (get_or ks k 0)) (to_newton ordinary f k)) → ((k : ℕ) → k < n → get_or c k 0 ≡ get_or ks k 0 % w p e k) → Reduces p e f c
-reduces_remainders p e m u n listed is mu few f ks c long held made =
+pub reduces_remainders : (p e m u n : ℕ) → Listed p e → m ≡ p ^ e → Mu p e u → u ≤ n → (f : List ℤ) (ks c : List ℕ)
+    → ((k : ℕ) → Cong m (pos (get_or ks k 0)) (to_newton ordinary f k)) → ((k : ℕ) → k < n → get_or c k 0 ≡ get_or ks k 0 % w p e k) → ((k : ℕ) → n ≤ k → get_or c k 0 ≡ 0)
+    → Reduces p e f c
+reduces_remainders p e m u n listed is mu few f ks c held made past =
     reduces p e listed f c u mu small
     (λ i lt. cong_trans (cong_path (w p e i) (ap pos (made i (omega arith))))
     (cong_trans (cong_sym (cong_mod (w p e i) (get_or ks i 0))) (cong_lower p e (v p i) (subst (λ (n : ℕ). Cong n (pos (get_or ks i 0)) (to_newton ordinary f i)) is (held i)))))
@@ -175,7 +176,7 @@ reduces_remainders p e m u n listed is mu few f ks c long held made =
       where
         go : Dec (i < n) → get_or c i 0 < w p e i
         go (yes lt) = rw (made i lt) (mod-lt (get_or ks i 0) (w-positive p e i listed))
-        go (no ge) = rw (get_or_past c i 0 (omega arith)) (w-positive p e i listed)
+        go (no ge) = rw (past i (omega arith)) (w-positive p e i listed)
 
 -- a form that is the same in every place serves as well
 pub reduces_same : (p e : ℕ) (f : List ℤ) (c d : List ℕ) → Reduces p e f c → SameForm d c → Reduces p e f d
@@ -192,6 +193,6 @@ reduced-past p e u mu c reduced k le =
     let one : w p e k ≡ 1 = w-past p e u k mu le in
     omega (arith, reduced k)
 
--- so its first μ coefficients are all of it
-pub reduces_front : (p e u : ℕ) (f : List ℤ) (c : List ℕ) → Mu p e u → Reduces p e f c → Reduces p e f (take u c)
-reduces_front p e u f c mu h = reduces_same p e f c (take u c) h (front_same c u (reduced-past p e u mu c h.reduced))
+-- so its first coefficients, behind which there are only zeros, are all of it
+pub reduces_front : (p e : ℕ) (f : List ℤ) (c : List ℕ) (n : ℕ) → Reduces p e f c → ((k : ℕ) → n ≤ k → get_or c k 0 ≡ 0) → Reduces p e f (take n c)
+reduces_front p e f c n h clear = reduces_same p e f c (take n c) h (front_same c n clear)

@@ -1,4 +1,4 @@
-// Polynomials modulo a listed modulus.
+// Polynomials modulo a listed modulus. The calls that refuse a modulus off the list take p and e as two numbers; the others take a Modulus.
 #![tactic(auto)]
 
 pub mod alike;

@@ -33,6 +33,7 @@ fn checked(p: u32, e: u32, steps: &[Step]) -> Result<Modulus, Refusal>
     Ok(modulus)
 }
 
+// What a run leaves of the tally and of the rack is said at each function on the way: it is about a change, which no type can carry.
 // Takes the trays that the steps need, and runs them there. They stay out: `run_held` puts the count back.
 // The two are apart so that a way out without the guard fails at a fact of `run_held`, which has no proof file.
 fn run_taken<E: Element>(
@@ -93,6 +94,7 @@ fn run_all<E: Element>(
 // Runs the steps on the input: copies it to the first tray above the tally's count, does the steps there, and answers the tray that is written last, or the input without steps.
 // Refuses a modulus off the list, then the first bad step, then a rack with too few free trays, then the first multiplication that no level is left for.
 // The tally is left as it was; all but the last leave the trays as they were.
+// p and e are two numbers, since a modulus off the list is refused here; the tally is a record beside the rack, since holds and runs share it.
 pub fn run<E: Element>(
     p: u32,
     e: u32,

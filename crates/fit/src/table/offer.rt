@@ -31,7 +31,7 @@ impl Fit {
         Some(c as u16)
     }
 
-    // One coefficient more. Past the last place it is 0, which needs no memory.
+    // One coefficient more. Past the last place it is 0, which needs no memory. That the modulus stays is said here and at the functions above: it is about a change, which no type can carry.
     fn append(&mut self, coefficient: u16)
         requires room { self.old.count < self.old.modulus.value }
         requires small { coefficient < w self.old.modulus.prime self.old.modulus.exponent self.old.count }

@@ -30,17 +30,17 @@ written f n xs e held =
     }
 
 -- what the library of polynomials answers, as the fit says it
-answered : (f : Fit) (n : ℕ) (before after : List ℕ) (r : Result ℕ Refusal) → n ≡ report_length f → length f.coefficients ≡ 52
+powers_answered : (f : Fit) (n : ℕ) (before after : List ℕ) (r : Result ℕ Refusal) → n ≡ report_length f → length f.coefficients ≡ 52
     → MatchResult r (λ k. (k ≡ length (take n f.coefficients)) × (k ≤ 64) × (k ≤ length before) × Holds f.modulus.value (form (take n f.coefficients)) k (take k after) × (drop k after ≡ drop k before))
     (λ e. NoPowers (length (take n f.coefficients)) (length before) e × (after ≡ before))
     → MatchResult r (λ _. (n ≤ length before) × WrittenPowers f (take n after) × (drop n after ≡ drop n before)) (λ e. (e ≡ ShortBuffer n) × (length before < n) × (after ≡ before))
-answered f n before after (Ok k) e len h =
+powers_answered f n before after (Ok k) e len h =
     let got = rw (h.0 ∙ (few f n e len).0) at h in
     (got.2, written f n (take n after) e got.3, got.4)
-answered f n before after (Err r) e len h =
+powers_answered f n before after (Err r) e len h =
     let size = few f n e len in
     let no = refused n (length before) r size.1 (rw size.0 at h.0) in
     (no.0, no.1, h.1)
 
 pub returns : goal.returns
-returns c = answered c.args.self.now c.args.needed c.args.out.now c.powers.new.out c.powers.result c.requires (search rules) c.powers.ensures
+returns c = powers_answered c.args.self.now c.args.needed c.args.out.now c.powers.new.out c.powers.result c.requires (search rules) c.powers.ensures
