@@ -18,6 +18,10 @@ stands f = standing (power_of f.modulus) f.coefficients f.count
 abbrev pub report_length : Fit → ℕ
 report_length f = min f.count f.modulus.mu
 
+-- xs are the coefficients of the form that is reported for the standing values
+abbrev pub WrittenReport : Fit → List ℕ → Type 0
+WrittenReport f xs = Reported f.modulus.prime f.modulus.exponent (stands f) xs
+
 -- xs are the coefficients in powers of X of the reported polynomial: the reported form with the standing values is one polynomial modulo p ^ e with them,
 -- coefficient by coefficient, and each is below p ^ e
 pub record WrittenPowers (f : Fit) (xs : List ℕ) : Type 0 where

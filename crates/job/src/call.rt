@@ -18,7 +18,7 @@ fn page_of(bytes: &[u8]) -> Result<Figures, Refusal>
     figures_of_job(&job)
 }
 
-// Writes the page to the front of the buffer, if there is room for all of it.
+// Writes the page to the front of the buffer, if there is room for all of it. It is written into a buffer of its own first: how wide it is, is known only then.
 fn write_out(text: &mut [u8], page: &Result<Figures, Refusal>) -> Result<usize, Refusal>
     ensures { MatchResult result (λ n. (n ≤ length text.old) × (take n text.new ≡ page_text page.now) × (drop n text.new ≡ drop n text.old)) (λ f. (length text.old < length (page_text page.now)) × (f ≡ Refusal.ShortBuffer (length (page_text page.now))) × (text.new ≡ text.old)) }
 {

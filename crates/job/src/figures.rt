@@ -20,7 +20,8 @@ use plan::step::Step;
 use planner::issue::plan;
 use planner::kind::Kind;
 
-// Offers the values in their order until one is refused, and refuses as that one does. The index is for the proof: its invariant speaks of the values from there on.
+// Offers the values in their order until one is refused, and refuses as that one does.
+// The loop has the index of each value, a form that this project asks for here; it is the place that the value is offered for.
 fn offer_all(fit: &mut Fit, values: &[u32]) -> Result<(), Refusal>
     ensures modulus { fit.new.modulus ≡ fit.old.modulus }
     ensures judged { Judged (power_of fit.old.modulus) (stands fit.old) values.now (stands fit.new) (result_err result) }

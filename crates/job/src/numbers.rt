@@ -1,5 +1,5 @@
 // Numbers and keys read from the front of a text. Each reader answers what it read and the rest of the text.
-ghost use Rattle.std.specs.Prelude.{◌≡◌, ℕ, ◌≤◌, List, ◌++◌, length, MatchOption, ◌≢◌};
+ghost use Rattle.std.specs.Prelude.{◌≡◌, ℕ, List, ◌++◌, MatchOption, ◌≢◌};
 ghost use Rattle.std.specs.Str.Parse.{AllDigits};
 ghost use Rattle.job.specs.Reading.{Ends, LineThen, NoLine, NoNumber, NumberThen};
 

@@ -41,6 +41,7 @@ impl Piece for Option<Refusal> {
     ghost most = { 36 };
 
     fn put(self, text: &mut [u8]) -> usize {
+        // A match: of a closure that writes, a proof knows nothing of the text that it leaves.
         match self {
             None => 0,
             Some(refusal) => refusal.put(text),

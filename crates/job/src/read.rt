@@ -32,6 +32,7 @@ fn values_line(text: &[u8]) -> Found<'_, ArrayVec<u32, VALUES>>
     ensures { MatchOption result (NoListLine text.now (codes "values=")) (λ r. ListThen text.now (codes "values=") r.0.items r.1.now) }
 {
     let values = behind(text, b"values=")?;
+    // A match: `map` and `or_else` would be no shorter.
     match behind(values, b"\n") {
         Some(rest) => Some((ArrayVec::new(), rest)),
         None => joined_values(values),

@@ -29,7 +29,7 @@ impl Modulus {
         self.exponent() - self.factorial(i).exponent
     }
 
-    // The digits of all places below k, which is at most μ.
+    // The digits of all places below k, which is at most μ. A loop with two running numbers: a sum of `digits_at` would take each factorial apart again.
     fn digits_below(&self, k: u32) -> u32
         requires { k ≤ self.now.mu }
         ensures { result ≡ open_digits self.now.prime self.now.exponent k }

@@ -1,6 +1,6 @@
 // A listed modulus, as a type that can hold no other one.
-ghost use Rattle.std.specs.Prelude.{◌≡◌, ℕ, ◌-◌, ◌%◌, ◌^◌, ◌<◌, ◌≤◌, MatchResult};
-ghost use Rattle.modulus.specs.Bounds.{Mu, v};
+ghost use Rattle.std.specs.Prelude.{◌≡◌, ◌-◌, ◌%◌, ◌^◌, ◌<◌, ◌≤◌, MatchResult};
+ghost use Rattle.modulus.specs.Bounds.{Mu};
 ghost use Rattle.modulus.specs.Moduli.{Listed, greatest};
 
 use crate::refusal::Refusal;
@@ -112,13 +112,13 @@ impl Modulus {
         self.value
     }
 
-    // −i modulo p ^ e.
-    pub fn negative(&self, i: u32) -> u32
+    // −i modulo p ^ e, which 16 bits hold.
+    pub fn negative(&self, i: u32) -> u16
         ensures is { result ≡ (self.now.value - i % self.now.value) % self.now.value }
         ensures below { result < self.now.value }
     {
         let m = self.value();
-        (m - i % m) % m
+        ((m - i % m) % m) as u16
     }
 
     // μ, at most 52: from this place on every bound is 1.

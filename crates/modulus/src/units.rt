@@ -1,5 +1,5 @@
 // Numbers as powers of p times units, and division by a factorial modulo p ^ e.
-ghost use Rattle.std.specs.Prelude.{◌≡◌, ℕ, ◌*◌, ◌/◌, ◌%◌, ◌^◌, ◌<◌, ◌≤◌};
+ghost use Rattle.std.specs.Prelude.{◌≡◌, ◌*◌, ◌/◌, ◌%◌, ◌^◌, ◌<◌, ◌≤◌};
 ghost use Rattle.modulus.specs.Bounds.{exponent, factorial as factorial_of, v};
 ghost use Rattle.modulus.specs.Moduli.{greatest};
 ghost use Rattle.modulus.specs.Quotient.{Quotient};
@@ -13,7 +13,7 @@ pub(crate) struct PrimePart {
     pub rest: u32,
 }
 
-// Takes p out of n.
+// Takes p out of n. A `while`: how often p goes is what it looks for.
 pub(crate) fn split(p: u32, n: u32) -> PrimePart
     requires above { 1 < p }
     requires some { 0 < n }
@@ -53,6 +53,7 @@ fn quotient(m: u32, shared: u32, rest: u32, inverse: u32) -> u32
 }
 
 impl Modulus {
+    // The range is from 0: over `1..=i` the check takes the last round apart, and each answer stands twice.
     // Takes p out of i!, for a place below μ; what is left of i! is given modulo p ^ e.
     pub(crate) fn factorial(&self, i: u32) -> PrimePart
         requires { i < self.now.mu }
@@ -82,7 +83,7 @@ impl Modulus {
         let mut r = inverse_modulo_prime(self.prime(), u);
         let mut right = 1;
         while right < self.exponent() {
-            r = r * ((2 + self.negative(u * r)) % m) % m;
+            r = r * ((2 + u32::from(self.negative(u * r))) % m) % m;
             right *= 2;
         }
         r
@@ -97,7 +98,7 @@ impl Modulus {
         self.prime().pow(part.exponent)
     }
 
-    // The inverse modulo p ^ e of what is left in a part.
+    // The inverse modulo p ^ e of what is left in a part. Apart from `inverse`, so that a wrong unit is refused at a clause of this function.
     fn inverse_of_rest(&self, part: PrimePart) -> u32
         requires unit { 0 < part.rest % self.now.prime }
         requires small { part.rest < self.now.value }

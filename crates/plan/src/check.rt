@@ -1,5 +1,5 @@
 // The step check: the first bad step of a list from anyone, and how many trays a list needs.
-ghost use Rattle.std.specs.Prelude.{◌≡◌, ℕ, ◌<◌, true, false, MatchOption};
+ghost use Rattle.std.specs.Prelude.{◌≡◌, ◌<◌, MatchOption};
 ghost use Rattle.plan.specs.Marks.{good_by, marked};
 ghost use Rattle.plan.specs.Steps.{FirstBad, greatest_of, Passes, trays_of};
 

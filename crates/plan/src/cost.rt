@@ -1,5 +1,5 @@
 // What a step list costs.
-ghost use Rattle.std.specs.Prelude.{◌≡◌, ℕ, ◌+◌, ◌*◌, ◌<◌, ◌≤◌, length, MatchResult, slice_index};
+ghost use Rattle.std.specs.Prelude.{◌≡◌, ℕ, ◌+◌, ◌<◌, ◌≤◌, length, MatchResult, slice_index};
 ghost use Rattle.plan.specs.Steps.{depth_by, depth_of, multiplications_of};
 
 use crate::check::STEPS;

@@ -1,6 +1,7 @@
 // Steps.
 
 // What a step does. There are no other kinds, so a `match` picks what is run: a closure or a trait object would hide that all cases are met.
+// The numbers are those by which docs/steps.md names them.
 #[derive(Clone, Copy, PartialEq, Eq, Debug, Default)]
 pub enum Op {
     // The sum of two trays.

@@ -1,5 +1,5 @@
 // Block plans.
-ghost use Rattle.std.specs.Prelude.{◌≡◌, ◌+◌, ◌-◌, ◌*◌, ◌/◌, ◌<◌, ◌≤◌, [], ◌∷◌, ◌++◌, length, MatchResult};
+ghost use Rattle.std.specs.Prelude.{◌≡◌, ◌+◌, ◌-◌, ◌*◌, ◌/◌, ◌≤◌, ◌++◌, length, MatchResult};
 ghost use Rattle.planner.specs.Layout.{block as block_of, blocks as blocks_of, filled as filled_of, lower as lower_of, multiplies, powers as powers_of, terms as terms_of};
 
 use crate::draft::{Draft, add, multiply, scale, shift};

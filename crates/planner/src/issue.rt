@@ -38,6 +38,7 @@ fn in_powers(fit: &Fit) -> [u16; COEFFICIENTS]
 }
 
 // The plan of this kind for what stands in the fit; refuses a block whose size is not 1 to 8.
+// The modulus and the values stand one by one in this contract and the next: the rules of plans know no fit.
 fn lay_out(fit: &Fit, kind: Kind) -> Result<Draft, Refusal>
     ensures { MatchResult result (λ draft. Issued fit.now.modulus.prime fit.now.modulus.exponent (stands fit.now) kind draft.items) (λ f. (room : ℕ) → NoPlan fit.now.modulus.prime fit.now.modulus.exponent (stands fit.now) room kind f) }
 {

@@ -5,19 +5,12 @@ ghost use Rattle.planner.specs.Layout.{ladder as ladder_of, minus as minus_of, m
 use crate::draft::{Draft, multiply, scale, shift};
 use modulus::listed::Modulus;
 
-// −i modulo m.
-fn minus(modulus: &Modulus, i: u32) -> u16
-    ensures { result ≡ minus_of modulus.now.value i }
-{
-    modulus.negative(i) as u16
-}
-
 // One rung: tray 2 is the input less i, tray 1 is tray 1 times tray 2, plus c.
 fn rung(draft: &mut Draft, modulus: &Modulus, i: u32, c: u16)
     requires { length draft.old.items + 3 ≤ 160 }
     ensures { draft.new.items ≡ draft.old.items ++ shifts 2 0 (minus_of modulus.now.value i) ∷ multiplies 1 1 2 ∷ shifts 1 1 c ∷ [] }
 {
-    draft.push(shift(2, 0, minus(modulus, i)));
+    draft.push(shift(2, 0, modulus.negative(i)));
     draft.push(multiply(1, 1, 2));
     draft.push(shift(1, 1, c));
 }
@@ -47,7 +40,7 @@ pub(crate) fn ladder(modulus: &Modulus, coefficients: &[u16]) -> Draft
         }
         [below @ .., second, top] => {
             let n = below.len() as u32;
-            draft.push(shift(2, 0, minus(modulus, n)));
+            draft.push(shift(2, 0, modulus.negative(n)));
             draft.push(scale(1, 2, *top));
             draft.push(shift(1, 1, *second));
             rungs(&mut draft, modulus, below);

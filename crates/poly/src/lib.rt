@@ -1,4 +1,5 @@
 // Polynomials modulo a listed modulus. The calls that refuse a modulus off the list take p and e as two numbers; the others take a Modulus.
+// A modulus and a list stay two parameters where any list may be given, as in `evaluate` and `powers`.
 #![tactic(auto)]
 
 pub mod alike;

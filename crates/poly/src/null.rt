@@ -9,15 +9,6 @@ use crate::shift::COEFFICIENTS;
 use modulus::listed::Modulus;
 use modulus::refusal::{Refusal, check_room};
 
-// The number of coefficients of place i; refuses a buffer with less room.
-fn needed_room(i: usize, room: usize) -> Result<usize, Refusal>
-    requires { i ≤ 63 }
-    ensures { MatchResult result (λ n. (n ≡ i + 1) × (n ≤ room)) (λ f. (room < i + 1) × (f ≡ Refusal.ShortBuffer (i + 1))) }
-{
-    check_room(room, i + 1)?;
-    Ok(i + 1)
-}
-
 // w(i)·(X)_i. Both `as` lose nothing, and the library has no `From` for them.
 fn null_powers(modulus: &Modulus, i: usize) -> [u16; ROOM]
     requires { i ≤ 63 }
@@ -50,7 +41,8 @@ pub fn null(p: u32, e: u32, i: usize, out: &mut [u16]) -> Result<usize, Refusal>
     if i >= COEFFICIENTS {
         return Err(Refusal::OutOfRange { given: i });
     }
-    let needed = needed_room(i, out.len())?;
+    let needed = i + 1;
+    check_room(out.len(), needed)?;
     write_null(&modulus, i, out);
     Ok(needed)
 }

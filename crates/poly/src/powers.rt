@@ -22,12 +22,12 @@ pub(crate) fn check_length(given: usize) -> Result<(), Refusal>
     Ok(())
 }
 
-// −i modulo p ^ e, in 16 bits. Both `as` lose nothing, and the library has no `From` for them.
+// −i modulo p ^ e. A function of its own, so that a wrong sign is refused at its clause. The `as` loses nothing, and the library has no `From` for it.
 fn negative(modulus: &Modulus, i: usize) -> u16
     requires { i < 64 }
     ensures { result ≡ (modulus.now.value - i % modulus.now.value) % modulus.now.value }
 {
-    modulus.negative(i as u32) as u16
+    modulus.negative(i as u32)
 }
 
 // Multiplies (X)_i by X − i.

@@ -44,7 +44,7 @@ impl<'a> Coefficients<'a> {
         ensures { MatchResult result (λ c. (c.modulus.now ≡ modulus.now) × (c.list.now ≡ list.now)) (λ f. NoList modulus.now.value list.now f) }
     {
         check_length(list.len())?;
-        // A match, since what is found is what is refused: no method of Option turns `Some` into `Err`.
+        // A match: `map_or` would put the refusal behind the answer, and is no plainer.
         match list.iter().position(|c| *c >= modulus.value()) {
             Some(place) => Err(Refusal::TooLarge { place }),
             None => Ok(Coefficients { modulus, list }),

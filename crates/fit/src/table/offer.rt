@@ -26,7 +26,7 @@ impl Fit {
         ensures { MatchOption result (Fits (power_of self.now.modulus) (stands self.now ++ value ∷ []) → ⊥) (λ c. (c < w self.now.modulus.prime self.now.modulus.exponent self.now.count) × Cong (power_of self.now.modulus) (pos (value_at self.now.coefficients self.now.count + c * factorial self.now.count)) (pos value)) }
     {
         let sum = self.value_at(self.count as u16);
-        let rest = value + self.modulus.negative(sum);
+        let rest = value + u32::from(self.modulus.negative(sum));
         let c = self.modulus.divide_by_factorial(self.count, rest)?;
         Some(c as u16)
     }
@@ -59,7 +59,7 @@ impl Fit {
         Ok(())
     }
 
-    // The value joins the table if some integer polynomial takes it there.
+    // The value joins the table if some integer polynomial takes it there. The promise is that of `offer`, where the refusals that need no polynomial are ruled out.
     fn fit_in(&mut self, value: u32) -> Result<Accepted, Refusal>
         requires { InRange self.old value }
         ensures modulus { self.new.modulus ≡ self.old.modulus }

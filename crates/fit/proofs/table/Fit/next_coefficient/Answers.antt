@@ -22,7 +22,7 @@ returns-in_err-c c =
     let some : 0 < m.value = omega (arith, m.large) in
     rw c.from_residual.ensures
     (no_fit m.prime m.exponent m.listed f.coefficients f.count y f.reduced f.clear
-    (λ d h. c.in_err-c.ensures d (sum_to_rest m.value a y (d * factorial f.count) c.value_at-sum.result c.negative.result some sum c.negative.ensures.is
+    (λ d h. c.in_err-c.ensures d (sum_to_rest m.value a y (d * factorial f.count) c.value_at-sum.result c.from.result some sum (c.from.ensures ∙ c.negative.ensures.is)
     (subst (λ (n : ℕ). Cong n (pos (a + d * factorial f.count)) (pos y)) (sym m.power) h))))
 
 pub returns : goal.returns
@@ -34,4 +34,4 @@ returns c =
     let a = value_at f.coefficients f.count in
     let sum = c.value_at-sum.ensures ∙ ap (λ (n : ℕ). a % n) (sym m.power) in
     let some : 0 < m.value = omega (arith, m.large) in
-    (c.in_ok-c.ensures.0, subst (λ (n : ℕ). Cong n (pos (a + d)) (pos y)) m.power (rest_to_sum m.value a y d c.value_at-sum.result c.negative.result some sum c.negative.ensures.is c.in_ok-c.ensures.1))
+    (c.in_ok-c.ensures.0, subst (λ (n : ℕ). Cong n (pos (a + d)) (pos y)) m.power (rest_to_sum m.value a y d c.value_at-sum.result c.from.result some sum (c.from.ensures ∙ c.negative.ensures.is) c.in_ok-c.ensures.1))

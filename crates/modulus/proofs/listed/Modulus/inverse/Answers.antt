@@ -37,7 +37,7 @@ loop-right-preserved c =
       small = mod-lt _ (omega (arith, m.large));
       some = omega (arith, inv.some);
       few = omega (arith, m.listed.1);
-      digits = inverse_round m c.loop-right.right c.args.u c.loop-right.r c.negative.result lt c.negative.ensures.is inv.digits;
+      digits = inverse_round m c.loop-right.right c.args.u c.loop-right.r c.from.result lt (c.from.ensures ∙ c.negative.ensures.is) inv.digits;
     })
 
 pub returns-clause-one : goal.returns-clause-one
