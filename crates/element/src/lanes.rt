@@ -17,7 +17,7 @@ pub struct Lanes<const N: usize> {
     ghost small: { (i : ℕ) → slice_index lanes i < 65536 },
 }
 
-// The loops go over the places: `array::from_fn` was tried, and its proof didn't close, since at a parameter N its clause says of a place only that some state of the closure was called.
+// Loops, and no `map` or `array::from_fn`: both were tried. `map` asks that N lanes and an iterator over them fit in memory, which isn't known at a parameter N; the proof over `array::from_fn` didn't close.
 impl<const N: usize> Lanes<N> {
     // Each lane is made by `f` of the one in its place.
     fn each<F: Fn(u16) -> u16>(self, f: F) -> Lanes<N>
@@ -25,20 +25,20 @@ impl<const N: usize> Lanes<N> {
         ensures { Each (λ x z. F.post f x z) self.entry.lanes result.lanes }
     {
         let mut made = self.lanes;
-        for i in 0..N {
-            made[i] = f(self.lanes[i]);
+        for lane in made.iter_mut() {
+            *lane = f(*lane);
         }
         Lanes { lanes: made }
     }
 
-    // Each lane is made by `f` of the two in its place.
+    // Each lane is made by `f` of the two in its place. By the place: with `zip` in its stead, a proof knows nothing of the lanes that the loop leaves in `made`.
     fn both<F: Fn(u16, u16) -> u16>(self, other: Lanes<N>, f: F) -> Lanes<N>
         requires { F.IsAlwaysCallable f }
         ensures { Both (λ x y z. F.post f x y z) self.entry.lanes other.entry.lanes result.lanes }
     {
         let mut made = self.lanes;
-        for i in 0..N {
-            made[i] = f(self.lanes[i], other.lanes[i]);
+        for (i, lane) in made.iter_mut().enumerate() {
+            *lane = f(*lane, other.lanes[i]);
         }
         Lanes { lanes: made }
     }

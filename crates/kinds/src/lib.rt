@@ -12,10 +12,10 @@ mod tests {
     use element::twin::Twin;
     use modulus::listed::Modulus;
     use modulus::refusal::Refusal;
-    use plan::step::{Op, Step};
     use rack::rack::Rack;
     use rack::run::run;
     use rack::tally::Tally;
+    use shown::tables::SQUARE;
     use std::process::Abort;
     use std::test::Fail;
 
@@ -73,7 +73,7 @@ mod tests {
     fn check_lanes<E: Made>(rt: &impl Abort, x: E, lanes: [u16; 3]) {
         let width = E::WIDTH;
         for (i, lane) in lanes.iter().enumerate() {
-            assert_eq!(rt; x.lane(i), if i < width { Some(*lane) } else { None });
+            assert_eq!(rt; x.lane(i), (i < width).then_some(*lane));
         }
         assert_eq!(rt; x.lane(width), None);
         assert_eq!(rt; x.lane(usize::MAX), None);
@@ -166,38 +166,14 @@ mod tests {
         Ok(())
     }
 
-    // A step that reads one tray and a number.
-    fn with_number(op: Op, to: u8, a: u8, k: u16) -> Step {
-        Step { op, to, a, b: 0, k }
-    }
-
-    // The ladder of the form 0,1,1,0 modulo 8, which is X + X(X − 1).
-    fn ladder() -> [Step; 6] {
-        let product = Step {
-            op: Op::Multiply,
-            to: 1,
-            a: 1,
-            b: 2,
-            k: 0,
-        };
-        [
-            with_number(Op::Shift, 2, 0, 7),
-            with_number(Op::Scale, 1, 2, 1),
-            with_number(Op::Shift, 1, 1, 1),
-            with_number(Op::Shift, 2, 0, 0),
-            product,
-            with_number(Op::Shift, 1, 1, 0),
-        ]
-    }
-
-    // Runs the ladder over the input on a rack over the buffer.
+    // Runs the ladder of the form 0,1,1,0 modulo 8, which is X + X(X − 1), over the input on a rack over the buffer.
     fn climb<E: Element>(input: E, buffer: &mut [E]) -> Result<E, Refusal> {
         let mut rack = Rack::new(buffer);
         let mut tally = Tally::new();
-        run(2, 3, &ladder(), input, &mut rack, &mut tally)
+        run(2, 3, &SQUARE, input, &mut rack, &mut tally)
     }
 
-    // The number and the place of a refusal; none for an answer.
+    // The number and the place of a refusal; none for an answer. By number and place, as a caller is shown them.
     fn refused<E: Element>(answer: Result<E, Refusal>) -> Option<(u8, usize)> {
         answer.err().map(|f| (f.number(), f.place()))
     }
@@ -236,7 +212,7 @@ mod tests {
         let mut tally = Tally::new();
         let mut hold = tally.hold();
         hold.take(1, rack.len())?;
-        let answer = run(2, 3, &ladder(), Bare::new(3), &mut rack, hold.tally)?;
+        let answer = run(2, 3, &SQUARE, Bare::new(3), &mut rack, hold.tally)?;
         assert_eq!(rt; hold.tally.out(), 1);
         check_lanes(&rt, answer, [1, 0, 0]);
         check_lanes(&rt, buffer[0], [7, 0, 0]);

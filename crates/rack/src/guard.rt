@@ -1,4 +1,4 @@
-// The guard under which runs take their own trays: it has the shape of a hold and is not one, since a hold is its caller's own, above the guards of runs.
+// The guard under which runs take their own trays. It looks like a `Hold` and is a type of its own below it, by a rule of the project: what a hold gives back can then change without touching runs.
 ghost use Rattle.std.specs.Prelude.{◌≡◌};
 
 use crate::tally::Tally;

@@ -11,12 +11,14 @@ use modulus::refusal::Refusal;
 use plan::step::Step;
 
 // A rack: the caller's buffer of elements of one kind. Its places are trays.
+// Contracts name the lanes and the level of the element one by one, as the public clauses do.
 #[derive(Drop)]
 pub struct Rack<'a, E> {
     pub(crate) trays: &'a mut [E],
 }
 
 // Does the steps on the trays from a base on; refuses the first multiplication that no level is left for.
+// The base stays a parameter beside the trays: a slice from the base on would hide the trays below, of which the contract says that they stay.
 fn do_steps<E: Element>(
     trays: &mut [E],
     base: usize,
@@ -40,9 +42,7 @@ impl<'a, E: Element> Rack<'a, E> {
     {
         Rack { trays }
     }
-}
 
-impl<E: Element> Rack<'_, E> {
     // How many trays the rack has.
     pub fn len(&self) -> usize
         ensures { result ≡ length self.now.trays.now }

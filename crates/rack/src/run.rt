@@ -1,4 +1,4 @@
-// Runs.
+// Runs. What they leave of the tally and of the rack is said at each function on the way: the clauses `tally`, `lender` and `stays` speak of two states, which no field can hold.
 ghost use Rattle.std.specs.Prelude.{◌≡◌, ℕ, ◌^◌, List, IfErr, MatchResult, ◌≢◌};
 ghost use Rattle.plan.specs.Steps.{FirstBad, Passes};
 ghost use Rattle.modulus.specs.Moduli.{Listed};
@@ -14,7 +14,7 @@ use modulus::refusal::Refusal;
 use plan::check::{first_bad, trays};
 use plan::step::Step;
 
-// Refuses a list with a bad step. A match: what is found is what is refused, and no method of Option turns `Some` into `Err`.
+// Refuses a list with a bad step. A match: `map_or` would put the refusal behind the answer, and is no plainer.
 fn check_steps(modulus: &Modulus, steps: &[Step]) -> Result<(), Refusal>
     ensures { MatchResult result (λ _. Passes modulus.now.value steps.now) (λ f. (i : ℕ) × FirstBad modulus.now.value steps.now i × (f ≡ Refusal.BadStep i)) }
 {
@@ -33,7 +33,6 @@ fn checked(p: u32, e: u32, steps: &[Step]) -> Result<Modulus, Refusal>
     Ok(modulus)
 }
 
-// What a run leaves of the tally and of the rack is said at each function on the way: it is about a change, which no type can carry.
 // Takes the trays that the steps need, and runs them there. They stay out: `run_held` puts the count back.
 // The two are apart so that a way out without the guard fails at a fact of `run_held`, which has no proof file.
 fn run_taken<E: Element>(
@@ -69,7 +68,7 @@ fn run_held<E: Element>(
     run_taken(modulus, steps, input, rack, &mut *guard.tally)
 }
 
-// The run, and the laws of runs. `run` above it has the same contract and no proof file, so that a wrong call fails at a fact of `run`.
+// The run, and the laws of runs. `run`, which calls it, has the same contract and no proof file, so that a wrong call fails at a fact of `run`.
 fn run_all<E: Element>(
     p: u32,
     e: u32,

@@ -18,7 +18,7 @@ fn result<E: Element>(a: E, b: E, s: Step, modulus: &Modulus) -> Result<E, Spent
     }
 }
 
-// Does one step on the trays from a base on.
+// Does one step on the trays from a base on. The base is a parameter for the reason given at `do_steps`.
 pub(crate) fn do_step<E: Element>(
     trays: &mut [E],
     base: usize,
