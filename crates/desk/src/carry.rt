@@ -20,6 +20,7 @@ pub enum Stopped {
     NoMemory,
 }
 
+// By hand, since the clause of `carry_out` has to know what `?` makes of an error.
 impl From<AllocError> for Stopped {
     ghost from_gives = { λ _ r. r ≡ NoMemory };
 
@@ -28,6 +29,7 @@ impl From<AllocError> for Stopped {
     }
 }
 
+// By hand, for the same reason.
 impl From<Refusal> for Stopped {
     ghost from_gives = { λ f r. r ≡ Refused f };
 

@@ -2,7 +2,7 @@
 use crate::rules::Open;
 use std::fmt;
 
-// The lanes of an element, with commas between them.
+// The lanes of an element, with commas between them. `Numbers` of the crate `shown` prints a slice, while an element shows one lane at a time.
 #[derive(Drop)]
 pub struct LanesOf<'a, E>(pub &'a E);
 

@@ -4,6 +4,7 @@ use plan::cost::Price;
 use planner::kind::Kind;
 
 // One use of the desk, with elements of one kind. There are no other uses, so a `match` picks the call: a list of uses is data, which closures are not.
+// The first two are those of the crate `desk`; they stand here too, since each desk's callers write one enum, and both are public.
 #[derive(Clone, Copy)]
 pub enum Use<E> {
     // Offer a value for the next place.
@@ -28,7 +29,7 @@ pub enum Use<E> {
     },
 }
 
-// What a use that is not refused answers.
+// What a use that is not refused answers. The first two are those of the crate `desk`, for the same reason.
 #[derive(Clone, Copy)]
 pub enum Answer<E> {
     // The place and the new coefficient of an accepted offer.

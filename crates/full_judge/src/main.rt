@@ -5,7 +5,6 @@ use element::bare::Bare;
 use fit::table::Fit;
 use full_desk::carry::{Stopped, carry_out};
 use full_desk::uses::Use;
-use modulus::count::count;
 use modulus::listed::Modulus;
 use modulus::refusal::Refusal;
 use plan::check::STEPS;
@@ -15,11 +14,11 @@ use planner::issue::{LARGEST_BLOCK, plan};
 use planner::kind::Kind;
 use rack::rack::Rack;
 use rack::tally::Tally;
-use shown::counts::PrimeCounts;
 use shown::lists::{Outcome, Uses};
 use shown::polynomials::Report;
-use shown::steps::{Checked, Steps};
-use shown::tables::{COMPARISONS, NULL_POLYNOMIALS, PRIMES, SQUARE, TABLES, Table, UNLISTED};
+use shown::sections::{AllCounts, Polynomials, SquareLists};
+use shown::steps::Steps;
+use shown::tables::{TABLES, Table, UNLISTED};
 
 // A table of as many values as the modulus.
 const WHOLE: Table<'static> = Table {
@@ -48,24 +47,20 @@ fn print_plan(rt: &HostRuntime, fit: &Fit, kind: Kind) -> anyhow::Result<()> {
     Ok(())
 }
 
-// Whether the one plan has fewer multiplications than the other, or as many and fewer steps.
-fn is_cheaper(one: Price, other: Price) -> bool {
-    (one.multiplications, one.steps) < (other.multiplications, other.steps)
-}
-
 // What the block plan of this size costs.
 fn block_price(fit: &Fit, size: usize) -> Result<Price, Refusal> {
     let mut buffer = [Step::default(); STEPS];
     plan(fit, Kind::Block { size }, &mut buffer)
 }
 
-// The size of the cheapest block plan for what stands.
+// The size of the cheapest block plan for what stands: fewest multiplications, then fewest steps.
+// A loop: a price may be refused, and `min_by_key` takes no `?`.
 fn cheapest_size(fit: &Fit) -> Result<usize, Refusal> {
     let mut best = 1;
     let mut least = block_price(fit, best)?;
     for size in 2..=LARGEST_BLOCK {
         let price = block_price(fit, size)?;
-        if is_cheaper(price, least) {
+        if (price.multiplications, price.steps) < (least.multiplications, least.steps) {
             best = size;
             least = price;
         }
@@ -84,6 +79,7 @@ fn print_plans(rt: &HostRuntime, fit: &Fit) -> anyhow::Result<()> {
 }
 
 // Carries out the uses on a freshly opened fit and prints each answer, the report and the plans.
+// Over the `Use` of this desk; the other program has the same over its own, without plans.
 fn judge(rt: &HostRuntime, p: u32, e: u32, uses: &[Use<Bare>]) -> anyhow::Result<()> {
     println!(rt; "modulo {p}^{e}")?;
     let mut fit = Fit::new();
@@ -113,6 +109,7 @@ fn judge(rt: &HostRuntime, p: u32, e: u32, uses: &[Use<Bare>]) -> anyhow::Result
 }
 
 // Offers the values of a table.
+// Over the `Use` of this desk; the other program has the same over its own.
 fn judge_table(rt: &HostRuntime, table: Table<'_>) -> anyhow::Result<()> {
     let uses = table
         .values
@@ -123,6 +120,7 @@ fn judge_table(rt: &HostRuntime, table: Table<'_>) -> anyhow::Result<()> {
 }
 
 // Offers the squares of all numbers below 2^16 modulo 2^16, and one value more than the fit can hold.
+// Over the `Use` of this desk; the other program has the same over its own, without plans.
 fn judge_full(rt: &HostRuntime) -> anyhow::Result<()> {
     let uses = (0..=65536u32)
         .map(|x| Use::Offer {
@@ -151,6 +149,8 @@ fn judge_full(rt: &HostRuntime) -> anyhow::Result<()> {
     print_plans(rt, &fit)
 }
 
+// Offers, and more withdrawals than there are values.
+// Over the `Use` of this desk; the other program has the same over its own.
 fn withdrawals(rt: &HostRuntime) -> anyhow::Result<()> {
     let uses = [
         Use::Offer { value: 3 },
@@ -194,25 +194,6 @@ fn plans_in_a_list(rt: &HostRuntime) -> anyhow::Result<()> {
     judge(rt, 2, 3, &uses)
 }
 
-// The steps of a square modulo 8; then with a product that reads a tray that was never written.
-fn step_lists(rt: &HostRuntime) -> anyhow::Result<()> {
-    let modulus = Modulus::new(2, 3)?;
-    let mut steps = SQUARE;
-    for (title, b) in [
-        ("X + X(X - 1)", 2),
-        ("the same with a tray that was never written", 3),
-    ] {
-        steps[4].b = b;
-        let checked = Checked {
-            indent: INDENT,
-            modulus: &modulus,
-            steps: &steps,
-        };
-        print!(rt; "modulo 2^3, {title}\n{checked}")?;
-    }
-    Ok(())
-}
-
 fn run(rt: &HostRuntime) -> anyhow::Result<()> {
     println!(rt; "Tables, offered value by value")?;
     for table in TABLES {
@@ -227,21 +208,12 @@ fn run(rt: &HostRuntime) -> anyhow::Result<()> {
     judge_table(rt, UNLISTED)?;
     println!(rt; "A full fit")?;
     judge_full(rt)?;
-    println!(rt; "Polynomials in powers of X that may be one function")?;
-    for comparison in COMPARISONS {
-        print!(rt; "{comparison}")?;
-    }
-    for nulls in NULL_POLYNOMIALS {
-        print!(rt; "{nulls}")?;
-    }
-    println!(rt; "Step lists")?;
-    step_lists(rt)?;
-    println!(rt; "Counts")?;
-    println!(rt; "  2^8: {}", Outcome(&count(2, 8)))?;
-    println!(rt; "Counts of every listed modulus: open places / digits for each exponent, from 1")?;
-    for prime in PRIMES {
-        print!(rt; "{}", PrimeCounts(prime))?;
-    }
+    print!(rt; "{Polynomials}")?;
+    let square_lists = SquareLists {
+        indent: INDENT,
+        modulus: &Modulus::new(2, 3)?,
+    };
+    print!(rt; "{square_lists}{AllCounts}")?;
     Ok(())
 }
 

@@ -8,13 +8,13 @@ mod tests {
     use std::process::Abort;
     use std::test::Fail;
 
-    // More bytes than any report has.
+    // More bytes than any report has: `PAGE` of the crate job, which is private, is 744.
     const TEXT: usize = 1024;
 
     // The byte that a buffer is filled with; no report has it.
     const FILL: u8 = 255;
 
-    // The most bytes of a job.
+    // The most bytes of a job. `BYTES` of the crate job is private; this is the same.
     const LONGEST: usize = 4096;
 
     // The report on the job is this text, what lies past it stays, and a buffer one byte too short is refused and stays.
@@ -27,7 +27,7 @@ mod tests {
         check_short(rt, job, written)
     }
 
-    // A buffer one byte too short is refused with the bytes needed, and stays.
+    // A buffer one byte too short is refused with the bytes needed, and stays. The refusal is told by number and place, as a caller is shown it.
     fn check_short(rt: &impl Abort, job: &[u8], needed: usize) -> Result<(), Fail> {
         let mut buffer = [FILL; TEXT];
         assert!(rt; needed >= 1 && needed <= TEXT);

@@ -4,15 +4,14 @@
 use desk::carry::{Stopped, carry_out};
 use desk::uses::Use;
 use fit::table::Fit;
-use modulus::count::count;
 use modulus::listed::Modulus;
-use shown::counts::PrimeCounts;
 use shown::lists::{Outcome, Uses};
 use shown::polynomials::Report;
-use shown::steps::Checked;
-use shown::tables::{COMPARISONS, NULL_POLYNOMIALS, PRIMES, SQUARE, TABLES, Table, UNLISTED};
+use shown::sections::{AllCounts, Polynomials, SquareLists};
+use shown::tables::{TABLES, Table, UNLISTED};
 
 // Carries out the uses on a freshly opened fit and prints each answer and the report.
+// Over the `Use` of this desk; the other program has the same over its own, with plans.
 fn judge(rt: &HostRuntime, p: u32, e: u32, uses: &[Use]) -> anyhow::Result<()> {
     println!(rt; "modulo {p}^{e}")?;
     let mut fit = Fit::new();
@@ -28,6 +27,7 @@ fn judge(rt: &HostRuntime, p: u32, e: u32, uses: &[Use]) -> anyhow::Result<()> {
 }
 
 // Offers the values of a table.
+// Over the `Use` of this desk; the other program has the same over its own.
 fn judge_table(rt: &HostRuntime, table: Table<'_>) -> anyhow::Result<()> {
     let uses = table
         .values
@@ -38,6 +38,7 @@ fn judge_table(rt: &HostRuntime, table: Table<'_>) -> anyhow::Result<()> {
 }
 
 // Offers the squares of all numbers below 2^16 modulo 2^16, and one value more than the fit can hold.
+// Over the `Use` of this desk; the other program has the same over its own, with plans.
 fn judge_full(rt: &HostRuntime) -> anyhow::Result<()> {
     let uses = (0..=65536u32)
         .map(|x| Use::Offer {
@@ -54,6 +55,8 @@ fn judge_full(rt: &HostRuntime) -> anyhow::Result<()> {
     Ok(())
 }
 
+// Offers, and more withdrawals than there are values.
+// Over the `Use` of this desk; the other program has the same over its own.
 fn withdrawals(rt: &HostRuntime) -> anyhow::Result<()> {
     let uses = [
         Use::Offer { value: 3 },
@@ -64,25 +67,6 @@ fn withdrawals(rt: &HostRuntime) -> anyhow::Result<()> {
         Use::Offer { value: 8 },
     ];
     judge(rt, 5, 2, &uses)
-}
-
-// The steps of a square modulo 8; then with a product that reads a tray that was never written.
-fn step_lists(rt: &HostRuntime) -> anyhow::Result<()> {
-    let modulus = Modulus::new(2, 3)?;
-    let mut steps = SQUARE;
-    for (title, b) in [
-        ("X + X(X - 1)", 2),
-        ("the same with a tray that was never written", 3),
-    ] {
-        steps[4].b = b;
-        let checked = Checked {
-            indent: "  ",
-            modulus: &modulus,
-            steps: &steps,
-        };
-        print!(rt; "modulo 2^3, {title}\n{checked}")?;
-    }
-    Ok(())
 }
 
 fn run(rt: &HostRuntime) -> anyhow::Result<()> {
@@ -96,21 +80,12 @@ fn run(rt: &HostRuntime) -> anyhow::Result<()> {
     judge_table(rt, UNLISTED)?;
     println!(rt; "A full fit")?;
     judge_full(rt)?;
-    println!(rt; "Polynomials in powers of X that may be one function")?;
-    for comparison in COMPARISONS {
-        print!(rt; "{comparison}")?;
-    }
-    for nulls in NULL_POLYNOMIALS {
-        print!(rt; "{nulls}")?;
-    }
-    println!(rt; "Step lists")?;
-    step_lists(rt)?;
-    println!(rt; "Counts")?;
-    println!(rt; "  2^8: {}", Outcome(&count(2, 8)))?;
-    println!(rt; "Counts of every listed modulus: open places / digits for each exponent, from 1")?;
-    for prime in PRIMES {
-        print!(rt; "{}", PrimeCounts(prime))?;
-    }
+    print!(rt; "{Polynomials}")?;
+    let square_lists = SquareLists {
+        indent: "  ",
+        modulus: &Modulus::new(2, 3)?,
+    };
+    print!(rt; "{square_lists}{AllCounts}")?;
     Ok(())
 }
 

@@ -28,7 +28,7 @@ mod tests {
     use std::process::Abort;
     use std::test::Fail;
 
-    // The number of the refusal to open a fit with the modulus p ^ e; none where it opens.
+    // The number of the refusal to open a fit with the modulus p ^ e, as a caller is shown it; none where it opens.
     fn opening(p: u32, e: u32) -> Option<u8> {
         let opened = Fit::new().open(p, e);
         opened.err().map(|refusal| refusal.number())
@@ -93,18 +93,16 @@ mod tests {
         assert_eq!(rt; &buffer[..5], [0, 1, 0, 1, 7].as_slice());
     }
 
-    // The value at x, modulo m, of the polynomial with these coefficients in powers of X. No m is 0: a test has no clause that could say so.
-    fn value(list: &[u32], x: u64, m: u64) -> u64 {
+    // The value at x of the polynomial with these coefficients in powers of X. As in `planned`, over u64: a test of one crate sees no test helper of another.
+    fn value(modulus: &Modulus, list: &[u32], x: u32) -> u64 {
+        let m = u64::from(modulus.value());
+        let x = u64::from(x);
         list.iter().rev().fold(0, |value: u64, c| {
-            value
-                .wrapping_mul(x)
-                .wrapping_add(u64::from(*c))
-                .checked_rem(m)
-                .unwrap_or(0)
+            value.wrapping_mul(x).wrapping_add(u64::from(*c)) % m
         })
     }
 
-    // Whether the reduced form of the list has its values at every whole number below the modulus.
+    // The reduced form of the list has its values at every whole number below the modulus.
     fn reduces(rt: &impl Abort, p: u32, e: u32, list: &[u32]) -> Result<(), Fail> {
         let modulus = Modulus::new(p, e)?;
         let mut reduced = [0u16; PLACES];
@@ -112,10 +110,7 @@ mod tests {
         assert!(rt; length <= PLACES);
         for x in 0..modulus.value() {
             let form = evaluate(&modulus, &reduced[..length], x as u16);
-            assert_eq!(rt;
-                u64::from(form),
-                value(list, u64::from(x), u64::from(modulus.value()))
-            );
+            assert_eq!(rt; u64::from(form), value(&modulus, list, x));
         }
         Ok(())
     }
@@ -162,11 +157,11 @@ mod tests {
         assert_eq!(rt; refusal_of(null(2, 3, 64, &mut out)), Some((7, 64)));
         assert_eq!(rt; refusal_of(null(2, 3, 3, &mut out)), Some((6, 4)));
         assert_eq!(rt; out[0], 5);
-        assert_eq!(rt; null(2, 3, 2, &mut out).is_ok(), true);
+        assert!(rt; null(2, 3, 2, &mut out).is_ok());
         assert_eq!(rt; out, [0, 4, 4]);
     }
 
-    // The number and the place of the refusal; none where there is an answer.
+    // The number and the place of the refusal, as a caller is shown them; none where there is an answer.
     fn refusal_of(answer: Result<usize, Refusal>) -> Option<(u8, usize)> {
         answer
             .err()
@@ -184,8 +179,8 @@ mod tests {
             k: 7,
         }; 161];
         assert!(rt; first_bad(&modulus, &steps[0..160]).is_none());
-        assert!(rt; first_bad(&modulus, &steps) == Some(160));
-        assert!(rt; trays(&steps) == 2);
+        assert_eq!(rt; first_bad(&modulus, &steps), Some(160));
+        assert_eq!(rt; trays(&steps), 2);
         assert!(rt; cost(&steps).is_err());
         Ok(())
     }
@@ -198,7 +193,7 @@ mod tests {
         assert_eq!(rt; told(alike(3, 2, &[0, 1], &[9; 65])), Err(7));
     }
 
-    // Whether two lists are alike, or the refusal's number.
+    // Whether two lists are alike, or the refusal's number, as a caller is shown it.
     fn told(answer: Result<bool, Refusal>) -> Result<bool, u8> {
         answer.map_err(|refusal| refusal.number())
     }

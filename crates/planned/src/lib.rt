@@ -2,6 +2,8 @@
 
 #![tactic(auto)]
 
+ghost use Rattle.std.specs.Prelude.{◌<◌};
+
 #[cfg(test)]
 mod tests {
     use fit::table::Fit;
@@ -29,18 +31,18 @@ mod tests {
     struct Values<'a> {
         list: &'a [u32],
         n: u32,
+        ghost some: { 0 < n },
     }
 
     impl Values<'_> {
-        // The value at x. Nothing wraps: x and n are at most 65,536. No n is 0: a test has no clause that could say so.
+        // The value at x. Nothing wraps: x and n are at most 65,536.
+        // As `value` in `marked`, over u32: a test of one crate sees no test helper of another.
         fn at(&self, x: u32) -> u32 {
-            self.list.iter().rev().fold(0, |value: u32, c| {
-                value
-                    .wrapping_mul(x)
-                    .wrapping_add(*c)
-                    .checked_rem(self.n)
-                    .unwrap_or(0)
-            })
+            let n = self.n;
+            self.list.iter().rev().fold(
+                0,
+                |value: u32, c| value.wrapping_mul(x).wrapping_add(*c) % n,
+            )
         }
     }
 
@@ -50,22 +52,27 @@ mod tests {
         n: 8,
     };
 
-    // What the steps answer modulo m, which is not 0, for the input x, which tray 0 has: what the last of them writes.
-    fn run(m: u32, steps: &[Step], x: u32) -> u32 {
+    // What a step writes under the modulus, by what the trays hold.
+    fn written(modulus: &Modulus, trays: &[u32; 256], s: Step) -> u32 {
+        let a = trays[usize::from(s.a)];
+        let b = trays[usize::from(s.b)];
+        let k = u32::from(s.k);
+        let result = match s.op {
+            Op::Add => a.wrapping_add(b),
+            Op::Multiply => a.wrapping_mul(b),
+            Op::Scale => a.wrapping_mul(k),
+            Op::Shift => a.wrapping_add(k),
+        };
+        result % modulus.value()
+    }
+
+    // What the steps answer under the modulus for the input x, which tray 0 has: what the last of them writes.
+    fn run(modulus: &Modulus, steps: &[Step], x: u32) -> u32 {
         let mut trays = [0u32; 256];
         trays[0] = x;
         let mut answer = x;
         for s in steps {
-            let a = trays[usize::from(s.a)];
-            let b = trays[usize::from(s.b)];
-            let k = u32::from(s.k);
-            let result = match s.op {
-                Op::Add => a.wrapping_add(b),
-                Op::Multiply => a.wrapping_mul(b),
-                Op::Scale => a.wrapping_mul(k),
-                Op::Shift => a.wrapping_add(k),
-            };
-            answer = result.checked_rem(m).unwrap_or(0);
+            answer = written(modulus, &trays, *s);
             trays[usize::from(s.to)] = answer;
         }
         answer
@@ -87,7 +94,7 @@ mod tests {
     fn check_answer(rt: &impl Abort, fit: &Fit, steps: &[Step], values: Values<'_>, x: u16) {
         let modulus = fit.modulus();
         let place = u32::from(x);
-        let answer = run(modulus.value(), steps, place);
+        let answer = run(&modulus, steps, place);
         assert_eq!(rt; answer, evaluate(&modulus, &fit.form(), x));
         assert!(rt; place >= fit.count() || answer == values.at(place));
     }
@@ -125,7 +132,7 @@ mod tests {
         buffer.iter().all(|s| *s == FILL)
     }
 
-    // The number and the place of the refusal of a plan; none where it is written.
+    // The number and the place of the refusal of a plan, as a caller is shown them; none where it is written.
     fn refused(fit: &Fit, kind: Kind, buffer: &mut [Step]) -> Option<(u8, usize)> {
         plan(fit, kind, buffer)
             .err()
@@ -159,13 +166,15 @@ mod tests {
             (13, 2),
             (13, 4),
         ] {
-            let n = Modulus::new(p, e)?.value();
+            let modulus = Modulus::new(p, e)?;
+            let n = modulus.value();
             let lists: [&[u32]; 5] = [&[], &[1], &[0, 0, 1], &[0, 2, 0, 1], &[1; 60]];
             for list in lists {
                 check_plans(&rt, p, e, Values { list, n })?;
             }
             let list = &[0, 1];
-            check_plans(&rt, p, e, Values { list, n: p })?;
+            let n = modulus.prime();
+            check_plans(&rt, p, e, Values { list, n })?;
         }
         Ok(())
     }

@@ -81,7 +81,7 @@ fn run_within<E: Open>(
     let mut hold = tally.hold();
     match hold.take(1, rack.len()) {
         Ok(()) => {
-            let _ = print_run(rt, steps, input, rack, hold.tally)?;
+            print_run(rt, steps, input, rack, hold.tally)?;
         }
         Err(refusal) => println!(rt; "{refusal}")?,
     }
@@ -97,7 +97,7 @@ fn run_alone<E: Open>(
     buffer: &mut [E],
 ) -> anyhow::Result<()> {
     print!(rt; "  {title}, input ")?;
-    let _ = run_on(rt, steps, input, buffer)?;
+    run_on(rt, steps, input, buffer)?;
     print_trays(rt, buffer)
 }
 
@@ -176,7 +176,7 @@ fn fitted(values: &[u32]) -> Result<Fit, Refusal> {
     let mut fit = Fit::new();
     fit.open(PRIME, EXPONENT)?;
     for value in values {
-        let _ = fit.offer(*value)?;
+        fit.offer(*value)?;
     }
     Ok(fit)
 }

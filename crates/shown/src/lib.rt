@@ -4,5 +4,6 @@
 pub mod counts;
 pub mod lists;
 pub mod polynomials;
+pub mod sections;
 pub mod steps;
 pub mod tables;

@@ -56,7 +56,7 @@ pub const UNLISTED: Table<'static> = Table {
 };
 
 // Polynomials in powers of X that may be one function.
-pub const COMPARISONS: [Comparison<'static>; 4] = [
+pub(crate) const COMPARISONS: [Comparison<'static>; 4] = [
     Comparison {
         p: 2,
         e: 2,
@@ -83,7 +83,7 @@ pub const COMPARISONS: [Comparison<'static>; 4] = [
     },
 ];
 
-pub const NULL_POLYNOMIALS: [NullPolynomials; 2] = [
+pub(crate) const NULL_POLYNOMIALS: [NullPolynomials; 2] = [
     NullPolynomials {
         p: 2,
         e: 3,
@@ -143,4 +143,4 @@ pub const SQUARE: [Step; 6] = [
 ];
 
 // The primes of the listed moduli.
-pub const PRIMES: [u32; 7] = [2, 3, 5, 7, 11, 13, 17];
+pub(crate) const PRIMES: [u32; 7] = [2, 3, 5, 7, 11, 13, 17];

@@ -7,10 +7,10 @@ use job::call::report;
 use std::io;
 use std::io::{Read, Write};
 
-// One byte more than a job can have: enough to know that the input is too long.
+// One byte more than a job can have: enough to know that the input is too long. `BYTES` of the crate job is private; this is one more.
 const INPUT: usize = 4097;
 
-// More bytes than any report has.
+// More bytes than any report has: `PAGE` of the crate job, which is private, is 744.
 const TEXT: usize = 1024;
 
 // Prints the report on the job that standard input has.
