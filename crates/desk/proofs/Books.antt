@@ -2,7 +2,9 @@
 use Rattle.std.proofs.Common.{◌≡◌, ℕ, ◌+◌, ◌<◌, List, [], ◌∷◌, ◌++◌, length, get_or, take, Ok, Err, Result, sym, refl, ap, ◌∙◌, subst, arith}
 use Rattle.std.proofs.lemmas.List.{length_push, take_more}
 use Rattle.modulus.specs.declared.listed.Modulus.{Modulus}
+use Rattle.modulus.specs.Moduli.{Listed}
 use Rattle.modulus.specs.declared.refusal.Refusal.{Refusal}
+use Rattle.modulus.specs.declared.refusal.Refusal.TheVariants.{Unlisted}
 use Rattle.poly.proofs.Reports.{reported}
 use Rattle.fit.proofs.Offers.{not_both}
 use Rattle.fit.specs.Rules.{Offered, NoWithdrawal, none}
@@ -11,6 +13,8 @@ use Rattle.fit.specs.declared.table.Fit.{Fit}
 use Rattle.fit.specs.declared.table.offer.Accepted.{Accepted}
 use Rattle.desk.specs.Book.{Sheet, sheet, fresh, Refuses, refuses_offer, refuses_withdrawal, stands_now, goes, Due, turned_away, answered, Book, closed, entry}
 use Rattle.desk.specs.Desk.{sheet_of, CarriedOut}
+use Rattle.desk.specs.Stops.{Stops, off_the_list}
+use Rattle.desk.specs.declared.carry.Stopped.TheVariants.{Refused}
 use Rattle.desk.specs.declared.uses.Use.{Use}
 use Rattle.desk.specs.declared.uses.Use.TheVariants.{Offer, Withdraw}
 use Rattle.desk.specs.declared.uses.Answer.{Answer}
@@ -56,6 +60,10 @@ pub book-step : (s mid end : Sheet) (us : List Use) (i : ℕ) (d : Use) (answers
 book-step s mid end us i d answers answers' a within book due is =
     subst (λ (vs : List Use). Book s vs answers' end) (sym (take_more us i d within))
     (subst (λ (bs : List (Result Answer Refusal)). Book s (take i us ++ get_or us i d ∷ []) bs end) (sym is) (book-more book due))
+
+-- ---- no use is carried out where no fit opens
+pub stops_open : (p e : ℕ) (f : Refusal) → (Listed p e → ⊥) → f ≡ Unlisted → Stops p e (Refused f)
+stops_open p e f never is = subst (λ (g : Refusal). Stops p e (Refused g)) (sym is) (off_the_list never)
 
 -- ---- the whole list, from a freshly opened fit
 pub carried : (p e : ℕ) (us : List Use) (answers : List (Result Answer Refusal)) (f g : Fit) → f.modulus.prime ≡ p → f.modulus.exponent ≡ e → stands f ≡ []

@@ -10,6 +10,7 @@ use Rattle.modulus.proofs.Congruences.{cong_refl, cong_path, cong_sym, cong_tran
 use Rattle.modulus.proofs.Integers.{zlin}
 use Rattle.poly.specs.Reduced.{Reduced, value_at}
 use Rattle.poly.proofs.Standing.{front_same, value_same}
+use Rattle.poly.proofs.Rings.{back_ring}
 
 -- from place μ on a reduced form has no coefficient
 pub past-mu : (p e k : ℕ) (c : List ℕ) → Mu p e k → Reduced p e c → (i : ℕ) → k ≤ i → get_or c i 0 ≡ 0
@@ -20,9 +21,6 @@ pub front_value : (c : List ℕ) (k x : ℕ) → ((i : ℕ) → k ≤ i → get_
 front_value c k x clear = value_same (take k c) c x (λ i _. front_same c k clear i)
 
 -- n is −s modulo m, where s is a modulo m: d is y + n modulo m exactly when it sums with a to y
-back_ring : (a y : ℤ) → a +ℤ (y -ℤ a) ≡ y
-back_ring a y = omega zlin
-
 less-ring : (a d : ℤ) → d ≡ (a +ℤ d) -ℤ a
 less-ring a d = omega zlin
 

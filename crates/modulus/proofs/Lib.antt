@@ -4,3 +4,4 @@ pub mod Primes
 pub mod Exponents
 pub mod Bounds
 pub mod Division
+pub mod Exits

@@ -8,6 +8,7 @@ use Rattle.modulus.proofs.Congruences.{cong_refl, cong_path, cong_sym, cong_tran
 use Rattle.poly.specs.Polynomial.{value}
 use Rattle.poly.specs.Equivalents.{ints}
 use Rattle.poly.proofs.Points.{below_suc}
+use Rattle.poly.proofs.Rings.{start_ring, split_ring, turn_ring}
 use Rattle.plan.specs.Trays.{put, after, last_from, answer}
 use Rattle.plan.specs.declared.step.Step.{Step}
 use Rattle.planner.specs.Layout.{adds, multiplies, scales, powers, terms, filled, lower, blocks, block}
@@ -31,12 +32,9 @@ pw x (suc j) = x *ℤ pw x j
 one_ring : (b : ℤ) → b ≡ pos 1 *ℤ b
 one_ring b = simp zring
 
-group_ring : (x a b : ℤ) → x *ℤ (a *ℤ b) ≡ x *ℤ a *ℤ b
-group_ring x a b = simp zring
-
 pw_add : (x : ℤ) (i j : ℕ) → pw x (i + j) ≡ pw x i *ℤ pw x j
 pw_add x zero j = ap (pw x) (zero-add j) ∙ one_ring (pw x j)
-pw_add x (suc i) j = ap (pw x) (suc-add i j) ∙ ap (λ (z : ℤ). x *ℤ z) (pw_add x i j) ∙ group_ring x (pw x i) (pw x j)
+pw_add x (suc i) j = ap (pw x) (suc-add i j) ∙ ap (λ (z : ℤ). x *ℤ z) (pw_add x i j) ∙ split_ring x (pw x i) (pw x j)
 
 -- ---- a value from place k on, in parts
 end-ring : (x : ℤ) → pos 0 ≡ pos 0 +ℤ x *ℤ pos 0
@@ -52,9 +50,6 @@ value-drop (c ∷ a) (suc k) x = value-drop a k x
 abbrev part : List ℕ → ℕ → ℕ → ℤ → ℤ
 part a at zero x = pos 0
 part a at (suc n) x = part a at n x +ℤ pos (get_or a (at + n) 0) *ℤ pw x n
-
-start_ring : (b : ℤ) → b ≡ pos 0 +ℤ pos 1 *ℤ b
-start_ring b = simp zring
 
 next_ring : (s p c x v : ℤ) → s +ℤ p *ℤ (c +ℤ x *ℤ v) ≡ s +ℤ c *ℤ p +ℤ x *ℤ p *ℤ v
 next_ring s p c x v = simp zring
@@ -147,9 +142,6 @@ last_lower : (s : ℕ) (a : List ℕ) (b : ℕ) → last_from s (lower s a b) �
 last_lower s a zero = refl
 last_lower s a (suc b) =
     last_++ s (filled s a (b * s)) (lower s a b) ∙ ap (λ (t : ℕ). last_from t (lower s a b)) (last_terms s a (b * s) (s - 1)) ∙ last_lower s a b
-
-turn_ring : (p k : ℤ) → p *ℤ k ≡ k *ℤ p
-turn_ring p k = simp zring
 
 term_ring : (z b c : ℤ) → z +ℤ b +ℤ c ≡ z +ℤ (b +ℤ c)
 term_ring z b c = simp zring

@@ -3,11 +3,11 @@ use Rattle.std.proofs.Common.{◌≡◌, ℕ, zero, suc, ◌+◌, ◌-◌, ◌*�
 use mathlib.Core.Path.{fun_ext}
 use Rattle.std.proofs.lemmas.List.{get_or-take, get_or_append_left, get_or_past, length-take-le, length_push}
 use Rattle.std.proofs.Math.Seq.{get_or-append_seam}
-use Rattle.modulus.proofs.Integers.{zring}
 use Rattle.poly.specs.Polynomial.{falling, form}
 use Rattle.poly.specs.Reduced.{SameForm, form_length}
 use Rattle.poly.proofs.Coefficients.{falling-past, sum_of, get_or-sum_suc, sum_of-stop, form-sum}
 use Rattle.poly.proofs.Standing.{form_length-le, form_length-past}
+use Rattle.poly.proofs.Rings.{zeros_ring}
 use Rattle.plan.specs.declared.step.Step.{Step}
 use Rattle.planner.specs.Layout.{adds, multiplies, scales, shifts, minus, rungs, ladder, powers, terms, filled, lower, blocks, block}
 
@@ -18,15 +18,12 @@ form_length-same c d h =
     (form_length-le d (form_length c) (λ i l. sym (h i) ∙ form_length-past c i l))
 
 -- ---- a form in powers of X
-none-ring : (c : ℤ) → pos 0 +ℤ c *ℤ pos 0 ≡ pos 0
-none-ring c = simp zring
-
 -- terms below place n have no coefficient in powers of X from n on
 sum_of-past : (c : ℕ → ℤ) (n k : ℕ) → n ≤ k → get_or (sum_of c n) k (pos 0) ≡ pos 0
 sum_of-past c zero k l = refl
 sum_of-past c (suc n) k l =
     get_or-sum_suc c n k ∙ ap (λ (z : ℤ). z +ℤ c n *ℤ get_or (falling n) k (pos 0)) (sum_of-past c n k (omega arith))
-    ∙ ap (λ (z : ℤ). pos 0 +ℤ c n *ℤ z) (falling-past n k l) ∙ none-ring (c n)
+    ∙ ap (λ (z : ℤ). pos 0 +ℤ c n *ℤ z) (falling-past n k l) ∙ zeros_ring (c n)
 
 -- a Newton form has no coefficient in powers of X from its length on
 pub form-past : (c : List ℕ) (k : ℕ) → form_length c ≤ k → get_or (form c) k (pos 0) ≡ pos 0

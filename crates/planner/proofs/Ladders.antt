@@ -8,6 +8,7 @@ use Rattle.poly.specs.Basis.{ordinary}
 use Rattle.poly.proofs.Points.{basis, newton}
 use Rattle.poly.proofs.Values.{newton_stop, value-form}
 use Rattle.poly.proofs.Reports.{coefficients}
+use Rattle.poly.proofs.Rings.{start_ring}
 use Rattle.poly.proofs.Shifts.{cong_minus}
 use Rattle.plan.specs.Trays.{after, last_from, answer}
 use Rattle.planner.specs.Layout.{minus, rungs, ladder}
@@ -23,16 +24,13 @@ less-agrees m i x some = sum_agrees (cong_refl m (pos x)) (cong_minus m i some)
 abbrev nested : List ℕ → ℕ → ℤ → ℤ → ℤ
 nested c i x t = newton ordinary (coefficients c) i x +ℤ basis ordinary i x *ℤ t
 
-none-ring : (t : ℤ) → t ≡ pos 0 +ℤ pos 1 *ℤ t
-none-ring t = simp zring
-
 rung_ring : (s b d t a : ℤ) → s +ℤ b *ℤ (t *ℤ d +ℤ a) ≡ s +ℤ a *ℤ b +ℤ b *ℤ d *ℤ t
 rung_ring s b d t a = simp zring
 
 -- the rungs below i make of t in tray 1 what is nested there
 rungs-agree : (m : ℕ) → 0 < m → (c : List ℕ) (i : ℕ) (trays : ℕ → ℕ) (t : ℤ) → Cong m (pos (trays 1)) t
     → Cong m (pos (after m trays (rungs m c i) (last_from 1 (rungs m c i)))) (nested c i (pos (trays 0)) t)
-rungs-agree m some c zero trays t h = cong_trans h (cong_path m (none-ring t))
+rungs-agree m some c zero trays t h = cong_trans h (cong_path m (start_ring t))
 rungs-agree m some c (suc i) trays t h =
     let x : ℤ = pos (trays 0) in
     let a : ℤ = pos (get_or c i 0) in

@@ -4,7 +4,7 @@ use lib.IntN.{zero-*ℤ}
 use Rattle.modulus.specs.Congruence.{Cong}
 use Rattle.modulus.proofs.Integers.{zring, zlin}
 use Rattle.modulus.proofs.Congruences.{cong_refl, cong_path, cong_sym, cong_trans, cong_add, cong_mul, cong_rest, cong_cancel_power}
-use Rattle.poly.proofs.Rings.{one_ring}
+use Rattle.poly.proofs.Rings.{split_ring, one_ring}
 
 -- the product of x − pt j over j below i
 abbrev pub basis : (ℕ → ℤ) → ℕ → ℤ → ℤ
@@ -54,9 +54,6 @@ newton_past pt c (suc k) t l =
 -- ---- forms whose coefficients agree modulo p ^ (e - ω i) agree at every point
 power_ring : (a b x : ℤ) → a *ℤ b *ℤ x ≡ pos 0 +ℤ b *ℤ x *ℤ a
 power_ring a b x = simp zring
-
-split_ring : (a b x : ℤ) → a *ℤ (b *ℤ x) ≡ a *ℤ b *ℤ x
-split_ring a b x = simp zring
 
 -- p ^ e divides p ^ (e - ω i) times basis i at every point
 pub vanish : {p e : ℕ} {pt : ℕ → ℤ} {ω : ℕ → ℕ} (L : Laws p e pt ω) (i t : ℕ) → Cong (p ^ e) (pos (p ^ (e - ω i)) *ℤ basis pt i (pt t)) (pos 0)

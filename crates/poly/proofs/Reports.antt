@@ -1,5 +1,5 @@
 -- The form that is reported for a table of values: that it is the reported one, and when a further value fits. Assumes nothing.
-use Rattle.std.proofs.Common.{◌≡◌, ℕ, zero, suc, ◌+◌, ◌-◌, ◌*◌, ◌%◌, ◌^◌, ◌<◌, ◌≤◌, List, [], ◌∷◌, ◌++◌, length, get_or, ℤ, pos, negsuc, ◌+ℤ◌, ◌-ℤ◌, ◌*ℤ◌, sym, ap, ◌∙◌, subst, le_refl, mod-lt, mod-eq_of_lt, arith, pow-add}
+use Rattle.std.proofs.Common.{◌≡◌, ℕ, zero, suc, ◌+◌, ◌-◌, ◌*◌, ◌%◌, ◌^◌, ◌<◌, ◌≤◌, List, [], ◌∷◌, ◌++◌, length, get_or, ℤ, pos, negsuc, ◌-ℤ◌, ◌*ℤ◌, sym, ap, ◌∙◌, subst, le_refl, mod-lt, mod-eq_of_lt, arith, pow-add}
 use native.Mathlib.Decide.{dec_lt}
 use Rattle.std.proofs.lemmas.List.{length_push, get_or_push, get_or_append_left, get_or_past}
 use Rattle.modulus.specs.Congruence.{Cong}
@@ -16,7 +16,7 @@ use Rattle.poly.proofs.Basis.{exact, least}
 use Rattle.poly.specs.Basis.{ordinary}
 use Rattle.poly.proofs.Falling.{falls-self, basis_falls, ordinary-laws}
 use Rattle.poly.proofs.Standing.{newton_is, value-is, sum_to-same, value_at-stop, value_at-past, length-standing, standing-at, standing-same, form_length-le, form_length-past}
-use Rattle.poly.proofs.Rings.{one_ring}
+use Rattle.poly.proofs.Rings.{back_ring, one_ring}
 
 -- ---- what a form takes
 pub value-standing : (m : ℕ) (c : List ℕ) (n i : ℕ) → i < n → Cong m (pos (value_at c i)) (pos (get_or (standing m c n) i 0))
@@ -135,9 +135,6 @@ solvable_past p e h n l d = record { times = pos (d * (p ^ (v p n - e) * parts.u
 
 unit_ring : (z s q u : ℤ) → z *ℤ s *ℤ (q *ℤ u) ≡ q *ℤ z *ℤ (u *ℤ s)
 unit_ring z s q u = simp zring
-
-back_ring : (a y : ℤ) → a +ℤ (y -ℤ a) ≡ y
-back_ring a y = omega zlin
 
 -- a multiple of p ^ v(n) is a multiple of n!, modulo p ^ e
 pub solvable : (p e : ℕ) → Listed p e → (n a y : ℕ) (z : ℤ) → Cong (p ^ e) (pos y -ℤ pos a) (pos (p ^ v p n) *ℤ z)

@@ -4,7 +4,7 @@ use lib.IntN.{+ℤ_idl, +ℤ_idr, *ℤ-zero}
 use Rattle.modulus.proofs.Integers.{zring}
 use Rattle.poly.specs.Polynomial.{value, plus, scaled, times_less, falling, form_from, form}
 use Rattle.poly.proofs.Points.{basis, newton, below_suc}
-use Rattle.poly.proofs.Rings.{none-ring, form-ring}
+use Rattle.poly.proofs.Rings.{none-ring, turn_ring, form-ring}
 
 plus-ring : (a b x f g : ℤ) → a +ℤ b +ℤ x *ℤ (f +ℤ g) ≡ a +ℤ x *ℤ f +ℤ (b +ℤ x *ℤ g)
 plus-ring a b x f g = simp zring
@@ -31,12 +31,9 @@ value-times_less a f x =
 one_ring : (x : ℤ) → pos 1 +ℤ x *ℤ pos 0 ≡ pos 1
 one_ring x = simp zring
 
-swap_ring : (a b : ℤ) → a *ℤ b ≡ b *ℤ a
-swap_ring a b = simp zring
-
 pub value-falling : (i : ℕ) (x : ℤ) → value (falling i) x ≡ basis (λ (k : ℕ). pos k) i x
 value-falling zero x = one_ring x
-value-falling (suc i) x = value-times_less (pos i) (falling i) x ∙ swap_ring (x -ℤ pos i) (value (falling i) x) ∙ ap (λ (z : ℤ). z *ℤ (x -ℤ pos i)) (value-falling i x)
+value-falling (suc i) x = value-times_less (pos i) (falling i) x ∙ turn_ring (x -ℤ pos i) (value (falling i) x) ∙ ap (λ (z : ℤ). z *ℤ (x -ℤ pos i)) (value-falling i x)
 
 -- terms whose coefficients are 0 add nothing
 pub newton_stop : (pt c : ℕ → ℤ) (j k : ℕ) → j ≤ k → ((i : ℕ) → j ≤ i → c i ≡ pos 0) → (x : ℤ) → newton pt c k x ≡ newton pt c j x

@@ -1,22 +1,18 @@
-use Rattle.std.proofs.Common.{sym, refl, subst}
-use Rattle.std.proofs.lemmas.Result.{err_from_is_err_and}
-use Rattle.desk.specs.Stops.{Stops, off_the_list, no_memory}
-use Rattle.desk.specs.declared.carry.Stopped.TheVariants.{Refused}
-use Rattle.modulus.specs.declared.refusal.Refusal.{Refusal}
-use Rattle.desk.proofs.Books.{carried}
+use Rattle.std.proofs.Common.{refl}
+use Rattle.modulus.proofs.Exits.{err_is}
+use Rattle.desk.specs.Stops.{no_memory}
+use Rattle.desk.proofs.Books.{stops_open, carried}
 use Rattle.desk.proofs.Laws.{decided, leads_back}
 use Rattle.desk.proofs.carry.carry_out.Goals as goal
 
 pub returns-in_err-answers : goal.returns-in_err-answers
 returns-in_err-answers c =
-    let p = err_from_is_err_and c.from_residual.result c.from_residual.ensures.1 in
-    rw (p.1, p.2) (record { law = (no_memory, refl); decided = decided; leads_back = leads_back })
+    rw (err_is _ _ c.from_residual.ensures.1) (record { law = (no_memory, refl); decided = decided; leads_back = leads_back })
 
 pub returns-in_err-open : goal.returns-in_err-open
 returns-in_err-open c =
-    let p = err_from_is_err_and c.from_residual-in_err-open.result c.from_residual-in_err-open.ensures.1 in
     let no = c.in_err-open.ensures in
-    rw (p.1, p.2) (record { law = (subst (λ (f : Refusal). Stops c.args.p c.args.e (Refused f)) (sym no.1) (off_the_list no.0), no.2); decided = decided; leads_back = leads_back })
+    rw (err_is _ _ c.from_residual-in_err-open.ensures.1) (record { law = (stops_open c.args.p c.args.e _ no.0 no.1, no.2); decided = decided; leads_back = leads_back })
 
 pub returns : goal.returns
 returns c =

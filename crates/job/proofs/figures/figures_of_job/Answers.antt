@@ -1,5 +1,5 @@
-use Rattle.std.proofs.Common.{List, ℕ, Option, sym, ◌∙◌, subst}
-use Rattle.std.proofs.lemmas.Result.{err_from_is_err_and}
+use Rattle.std.proofs.Common.{List, ℕ, Option, sym, subst}
+use Rattle.modulus.proofs.Exits.{err_is}
 use Rattle.fit.specs.Standing.{power_of, stands}
 use Rattle.modulus.specs.declared.refusal.Refusal.{Refusal}
 use Rattle.job.specs.Report.{Judged}
@@ -9,9 +9,8 @@ use Rattle.job.proofs.figures.figures_of_job.Goals as goal
 pub returns-in_err-open : goal.returns-in_err-open
 returns-in_err-open c =
     let job = c.args.job.now in
-    let p = err_from_is_err_and c.from_residual.result c.from_residual.ensures.1 in
     let got = c.in_err-open.ensures in
-    rw (p.1) (off_the_list job.prime job.exponent job.values.items p.0 got.0 (p.2 ∙ got.1))
+    rw (err_is _ _ c.from_residual.ensures.1) (off_the_list job.prime job.exponent job.values.items _ got.0 got.1)
 
 pub returns : goal.returns
 returns c =

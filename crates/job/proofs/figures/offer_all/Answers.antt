@@ -1,5 +1,5 @@
 use Rattle.std.proofs.Common.{get_or, drop, Some, None, sym, ◌∙◌, subst}
-use Rattle.std.proofs.lemmas.Result.{err_from_is_err_and}
+use Rattle.modulus.proofs.Exits.{err_is}
 use Rattle.fit.specs.Rules.{NoOffer}
 use Rattle.fit.specs.Standing.{power_of, stands}
 use Rattle.fit.specs.declared.table.Fit.{Fit}
@@ -32,13 +32,12 @@ returns-in_err-offer-clause-judged c =
     let f = c.loop-i.fit in
     let m = power_of c.args.fit.now.modulus in
     let got = c.in_err-offer.ensures in
-    let p = err_from_is_err_and c.from_residual.result c.from_residual.ensures.1 in
-    let no : NoOffer m (stands f) (get_or values i 0) p.0 =
-    subst (λ (r : Refusal). NoOffer m (stands f) (get_or values i 0) r) (sym p.2)
-    (subst (λ (n : Modulus). NoOffer (power_of n) (stands f) (get_or values i 0) c.in_err-offer.field-0.0) c.loop-i.invariant.0 got.cases.0) in
-    rw (p.1) (c.loop-i.invariant.1 (stands c.offer.new.self) (Some p.0)
-    (subst (λ (g : Fit). Judged m (stands f) (drop i values) (stands g) (Some p.0)) (sym got.cases.1)
-    (judged-stop m (stands f) values i 0 p.0 c.loop-i-test.true no)))
+    let r = c.in_err-offer.field-0.0 in
+    let no : NoOffer m (stands f) (get_or values i 0) r =
+    subst (λ (n : Modulus). NoOffer (power_of n) (stands f) (get_or values i 0) r) c.loop-i.invariant.0 got.cases.0 in
+    rw (err_is _ _ c.from_residual.ensures.1) (c.loop-i.invariant.1 (stands c.offer.new.self) (Some r)
+    (subst (λ (g : Fit). Judged m (stands f) (drop i values) (stands g) (Some r)) (sym got.cases.1)
+    (judged-stop m (stands f) values i 0 r c.loop-i-test.true no)))
 
 pub returns-clause-judged : goal.returns-clause-judged
 returns-clause-judged c =

@@ -1,10 +1,10 @@
 use Rattle.std.proofs.Common.{◌≡◌, ℕ, ◌^◌, List, length, take, sym, ap, ◌∙◌, subst, arith}
 use Rattle.std.proofs.lemmas.List.{get_or_past, length-take-le}
-use Rattle.std.proofs.lemmas.Result.{err_from_is_err_and}
 use Rattle.modulus.specs.declared.listed.Modulus.{Modulus}
 use Rattle.modulus.specs.declared.refusal.Refusal.{Refusal}
 use Rattle.modulus.specs.declared.refusal.Refusal.TheVariants.{OutOfRange}
 use Rattle.modulus.proofs.Bounds.{above_one}
+use Rattle.modulus.proofs.Exits.{err_is}
 use Rattle.poly.specs.Reduced.{form_length}
 use Rattle.poly.proofs.Reports.{reported-unique, residues}
 use Rattle.poly.proofs.Standing.{form_length-le, form_length-past, front_same}
@@ -73,8 +73,7 @@ pub returns-in_err-new-in-Block : goal.returns-in_err-new-in-Block
 returns-in_err-new-in-Block c =
     let m = c.args.fit.now.modulus in
     let ys = stands c.args.fit.now in
-    let p = err_from_is_err_and c.from_residual.result c.from_residual.ensures.1 in
     let got = c.in_err-new-in-Block.ensures in
-    rw (p.1, p.2)
+    rw (err_is _ _ c.from_residual.ensures.1)
     (λ room. subst (λ (f : Refusal). NoPlan m.prime m.exponent ys room c.args.kind f) (sym got.1)
     (subst (λ (k : Kind). NoPlan m.prime m.exponent ys room k (OutOfRange c.in-Block.size)) (sym c.in-Block.is) (no_size got.0)))

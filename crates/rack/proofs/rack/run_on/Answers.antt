@@ -1,6 +1,6 @@
 use Rattle.std.proofs.Common.{◌≡◌, ℕ, ◌+◌, ◌<◌, List, length, take, set, sym, ap, ◌∙◌, subst, arith}
 use Rattle.std.proofs.lemmas.List.{length-set, map-set}
-use Rattle.std.proofs.lemmas.Result.{err_from_is_err_and}
+use Rattle.modulus.proofs.Exits.{err_is}
 use Rattle.plan.specs.Trays.{last_from}
 use Rattle.plan.specs.declared.step.Step.{Step}
 use Rattle.rack.specs.Runs.{Meaning, Ran, StopsAt, StuckAt, after_steps, meaning_of, meanings, tray}
@@ -33,9 +33,8 @@ pub returns-in_err-do_steps : goal.returns-in_err-do_steps
 returns-in_err-do_steps g c =
     let lanes = g.E.Element.lanes in
     let level = g.E.Element.level in
-    let p = err_from_is_err_and c.from_residual.result c.from_residual.ensures.1 in
     let got = c.in_err-do_steps.ensures in
-    rw (p.1, p.2) (
+    rw (err_is _ _ c.from_residual.ensures.1) (
       got.0,
       got.1,
       stops c.args.modulus.now.value c.args.base (meanings lanes level c.args.trays.now) _ (meanings lanes level c.do_steps.new.trays) c.args.steps.now (meaning_of lanes level c.args.input) got.0

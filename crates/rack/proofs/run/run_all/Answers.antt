@@ -1,5 +1,5 @@
 use Rattle.std.proofs.Common.{refl}
-use Rattle.std.proofs.lemmas.Result.{err_from_is_err_and}
+use Rattle.modulus.proofs.Exits.{err_is}
 use Rattle.rack.specs.Runs.{meaning_of}
 use Rattle.rack.proofs.Laning.{due_lanes, lane-by_lane}
 use Rattle.rack.proofs.Leveling.{answer-level, level-rule}
@@ -8,8 +8,7 @@ use Rattle.rack.proofs.run.run_all.Goals as goal
 
 pub returns-in_err-modulus : goal.returns-in_err-modulus
 returns-in_err-modulus g c =
-    let p = err_from_is_err_and c.from_residual.result c.from_residual.ensures.1 in
-    rw (p.1, p.2) (record { tally = refl; lender = refl; cases = c.in_err-modulus.ensures _ _ _; stays = λ _. refl; level_rule = level-rule; answer_level = answer-level; lane_by_lane = lane-by_lane; due_lanes = due_lanes })
+    rw (err_is _ _ c.from_residual.ensures.1) (record { tally = refl; lender = refl; cases = c.in_err-modulus.ensures _ _ _; stays = λ _. refl; level_rule = level-rule; answer_level = answer-level; lane_by_lane = lane-by_lane; due_lanes = due_lanes })
 
 pub returns : goal.returns
 returns g c =

@@ -1,6 +1,6 @@
 use Rattle.std.proofs.Common.{◌≡◌, ◌<◌, None, Some, refl, arith}
-use Rattle.std.proofs.lemmas.Result.{err_from_is_err_and}
 use Rattle.modulus.specs.declared.refusal.Refusal.TheVariants.{NoPolynomial}
+use Rattle.modulus.proofs.Exits.{err_is}
 use Rattle.fit.specs.Standing.{power_of}
 use Rattle.fit.proofs.Offers.{Grown, grown, offered, is-unfit}
 use Rattle.fit.proofs.table.Fit.fit_in.Goals as goal
@@ -9,10 +9,9 @@ pub returns-in_err-coefficient-clause-cases : goal.returns-in_err-coefficient-cl
 returns-in_err-coefficient-clause-cases c =
     let f = c.args.self.now in
     let m = f.modulus in
-    let p = err_from_is_err_and c.from_residual.result c.from_residual.ensures.1 in
     let none : c.next_coefficient.result ≡ None = grind arith in
     let refusal : c.in_err-coefficient.field-0.0 ≡ NoPolynomial f.count = grind arith in
-    rw (p.1, p.2, refusal) (is-unfit f c.args.value (omega (arith, c.requires.0, m.power)) (omega (arith, c.requires.1, m.power)) (rw none at c.next_coefficient.ensures), refl)
+    rw (err_is _ _ c.from_residual.ensures.1, refusal) (is-unfit f c.args.value (omega (arith, c.requires.0, m.power)) (omega (arith, c.requires.1, m.power)) (rw none at c.next_coefficient.ensures), refl)
 
 pub returns-clause-cases : goal.returns-clause-cases
 returns-clause-cases c =

@@ -1,4 +1,4 @@
-use Rattle.std.proofs.Common.{◌≡◌, ℕ, ◌%◌, ◌≤◌, get_or, rules, arith}
+use Rattle.std.proofs.Common.{◌≡◌, ℕ, ◌%◌, get_or, rules, arith}
 use Rattle.std.proofs.lemmas.List.{get_or_past}
 use Rattle.modulus.specs.Bounds.{w}
 use Rattle.poly.specs.Equivalents.{ints}
