@@ -25,7 +25,7 @@ use rack::tally::Tally;
 use std::alloc::Global;
 use std::ops::Range;
 
-// The places of a part of a buffer of this length, as far as the buffer goes. A start and a count, as a use names them; a range could end before it begins.
+// The places of a part of a buffer of this length, as far as the buffer goes. A start and a count, here and below, as a use names them; a range could end before it begins.
 fn part_of(length: usize, start: usize, count: usize) -> Range<usize>
     ensures start { result.start ≡ min start length }
     ensures end { result.end ≡ result.start + min count (length - result.start) }
@@ -67,7 +67,7 @@ fn run_part<E: Element>(
     run(p, e, &steps[part], input, rack, tally)
 }
 
-// Carries out one use.
+// Carries out one use, as in the crate `desk`, with the buffer, the rack and the tally beside the fit.
 // The fit, the buffer, the rack and the tally stay four parameters: with a struct of the four loans the borrow check does not cover `perform` (four forms were tried), and each contract would have to say of each loan that its lender stays.
 fn perform<E: Element>(
     fit: &mut Fit,

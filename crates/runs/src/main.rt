@@ -40,6 +40,7 @@ fn print_trays<E: Open>(rt: &HostRuntime, trays: &[E]) -> anyhow::Result<()> {
 }
 
 // Runs the steps over the input. Prints the input's lanes, what was answered, and the tally before and after; answers the element, if there is one.
+// The rack and the tally are two, here and below, since a hold borrows the tally while the rack is free.
 fn print_run<E: Open>(
     rt: &HostRuntime,
     steps: &[Step],

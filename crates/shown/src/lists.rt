@@ -31,7 +31,7 @@ impl<T: fmt::Display> fmt::Display for Outcome<'_, T> {
     }
 }
 
-// A line for each use of a desk: what was asked, and what was answered.
+// A line for each use of a desk: what was asked, and what was answered. Two lists: a desk answers apart from the uses, in their order.
 #[derive(Drop)]
 pub struct Uses<'a, U, A> {
     pub uses: &'a [U],
