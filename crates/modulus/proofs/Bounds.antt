@@ -88,9 +88,3 @@ above_one p (suc e) h =
 
 pub prime_of : (m : Modulus) → Prime m.prime
 prime_of m = listed-prime m.prime m.exponent m.listed
-
--- what holds of a modulus' own numbers holds of the p and e that it was made from
-pub at_modulus : (P : ℕ → ℕ → ℕ → Type 0) (m : Modulus) (p e : ℕ) → m.prime ≡ p → m.exponent ≡ e → P m.value m.prime m.exponent → P (p ^ e) p e
-at_modulus P m p e hp he h =
-    subst (λ (k : ℕ). P (p ^ k) p k) he
-    (subst (λ (q : ℕ). P (q ^ m.exponent) q m.exponent) hp (subst (λ (n : ℕ). P n m.prime m.exponent) m.power h))

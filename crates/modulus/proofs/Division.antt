@@ -1,6 +1,6 @@
 -- Division by i! modulo p ^ e: the unit that is left of i!, its inverse by doubling the digits that are right, and which numbers can be divided.
 -- Assumes nothing.
-use Rattle.std.proofs.Common.{◌≡◌, ℕ, zero, suc, ◌+◌, ◌-◌, ◌*◌, ◌/◌, ◌%◌, ◌^◌, ◌<◌, ◌≤◌, min, ℤ, pos, ◌+ℤ◌, ◌-ℤ◌, ◌*ℤ◌, neg_ℤ, sym, ap, ◌∙◌, subst, mul-le-mul, pow-suc, arith, pow-add}
+use Rattle.std.proofs.Common.{◌≡◌, ℕ, zero, suc, ◌+◌, ◌-◌, ◌*◌, ◌/◌, ◌%◌, ◌^◌, ◌<◌, ◌≤◌, min, ℤ, pos, ◌+ℤ◌, ◌-ℤ◌, ◌*ℤ◌, neg_ℤ, sym, ap, ◌∙◌, subst, pow-suc, arith, pow-add}
 use Prim.Native.Nat.{◌∣◌}
 use native.Mathlib.Nat.{dvd-mul_right, dvd-mul_left, mod-eq-zero_of_dvd, dvd-mul_left_of_dvd, div-add-mod, mul-div_cancel_left, mod-mod, add-mod-mod, mod-mod_of_dvd, eq_of_mul-eq-mul_left}
 use Rattle.std.proofs.lemmas.Nat.{mul-mod_first}
@@ -115,9 +115,6 @@ quotient_is p e k u s q le inv =
     cong_trans turned
     (cong_trans (cong_path (p ^ e) (scale_ring (pos q) (pos s) (pos g) (pos u)))
     (cong_trans (cong_mul (cong_refl (p ^ e) (pos (q * g))) inv) (cong_path (p ^ e) (ap pos one))))
-
-pub product_small : (a b : ℕ) → a ≤ 65535 → b ≤ 65535 → a * b ≤ 65535 * 65535
-product_small a b ha hb = mul-le-mul ha hb
 
 power_divides : (p : ℕ) → Prime p → (i k : ℕ) → k ≤ v p i → p ^ k ∣ factorial i
 power_divides p P i k le =
