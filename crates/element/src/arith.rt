@@ -1,4 +1,5 @@
 // Arithmetic of one lane under a modulus. A number below the modulus fits 16 bits, which the check shows of each cast; `try_from` would have a refusal that never comes.
+// The crate poly has a sum with a product of its own: this crate stands on the moduli alone.
 ghost use Rattle.std.specs.Prelude.{◌≡◌, ◌+◌, ◌*◌, ◌/◌, ◌%◌};
 
 use modulus::listed::Modulus;

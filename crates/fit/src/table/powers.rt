@@ -7,7 +7,7 @@ use modulus::refusal::Refusal;
 use poly::powers::powers;
 
 impl Fit {
-    // Writes the coefficients in powers of X to the front of the buffer, if they fit.
+    // Writes the coefficients in powers of X to the front of the buffer, if they fit. `needed` is given, so that the clauses speak of one number.
     fn write_powers(&self, out: &mut [u16], needed: usize) -> Result<usize, Refusal>
         requires { needed ≡ report_length self.now }
         ensures { MatchResult result (λ _. (needed ≤ length out.old) × WrittenPowers self.now (take needed out.new) × (drop needed out.new ≡ drop needed out.old)) (λ f. (f ≡ Refusal.ShortBuffer needed) × (length out.old < needed) × (out.new ≡ out.old)) }
