@@ -1,4 +1,4 @@
-// The fit's type.
+// The fit's type. `as` stands in its methods where the library has no `From`; the check shows that nothing is lost.
 ghost use Rattle.std.specs.Prelude.{◌≡◌, ℕ, ◌≤◌, slice_index};
 ghost use Rattle.poly.specs.Reduced.{Reduced};
 

@@ -1,4 +1,4 @@
-// Uses carried out one after the other.
+// Uses carried out one after the other. The clauses `tally` and `lender` speak of two states, which no field can hold.
 ghost use Rattle.std.specs.Prelude.{◌≡◌, ◌+◌, ◌-◌, ◌≤◌, List, [], length, min, vec_capacity, MatchResult};
 ghost use Rattle.full_desk.specs.Book.{begins, part, room, written};
 ghost use Rattle.full_desk.specs.Desk.{Booked, CarriedOut, Performed};
@@ -34,7 +34,7 @@ fn part_of(length: usize, start: usize, count: usize) -> Range<usize>
     from..from + count.min(length - from)
 }
 
-// Writes a plan for what stands in the fit into a part of the buffer.
+// Writes a plan for what stands in the fit into a part of the buffer. The modulus and the values stand one by one: the rules of plans know no fit.
 fn plan_part(
     fit: &Fit,
     steps: &mut [Step],
@@ -48,7 +48,7 @@ fn plan_part(
     plan(fit, kind, &mut steps[part])
 }
 
-// Runs a part of the buffer.
+// Runs a part of the buffer. The clauses are those of `run`, of that part.
 fn run_part<E: Element>(
     steps: &[Step],
     p: u32,
@@ -102,7 +102,7 @@ fn perform<E: Element>(
     }
 }
 
-// Carries out the uses in their order, refused ones included, and notes each answer.
+// Carries out the uses in their order, refused ones included, and notes each answer. As in the crate `desk`, for the reason given at `perform`.
 fn carry_on<E: Element>(
     fit: &mut Fit,
     steps: &mut [Step],

@@ -1,4 +1,4 @@
-// How uses and answers are printed.
+// How uses and answers are printed. The first two of each as in the crate `desk`, whose enums are others.
 use crate::uses::{Answer, Use};
 use element::rules::Open;
 use element::show::LanesOf;

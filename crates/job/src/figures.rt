@@ -21,7 +21,7 @@ use planner::issue::plan;
 use planner::kind::Kind;
 
 // Offers the values in their order until one is refused, and refuses as that one does.
-// The loop has the index of each value, a form that this project asks for here; it is the place that the value is offered for.
+// The loop has the index of each value, as was asked for this place: its one caller offers to an empty fit, whose places they are (docs/DECISIONS.md, 39).
 fn offer_all(fit: &mut Fit, values: &[u32]) -> Result<(), Refusal>
     ensures modulus { fit.new.modulus ≡ fit.old.modulus }
     ensures judged { Judged (power_of fit.old.modulus) (stands fit.old) values.now (stands fit.new) (result_err result) }
@@ -33,6 +33,7 @@ fn offer_all(fit: &mut Fit, values: &[u32]) -> Result<(), Refusal>
 }
 
 // The multiplications of the ladder for what stands in the fit. No ladder has more steps than the buffer.
+// The modulus and the values stand one by one in the contracts: the rules of plans and reports know no fit.
 fn ladder_multiplications(fit: &Fit) -> usize
     ensures { (ladder : List StepOf) × Planned fit.now.modulus.prime fit.now.modulus.exponent (stands fit.now) Kind.Ladder ladder × (result ≡ multiplications_of ladder) }
 {

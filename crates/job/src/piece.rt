@@ -83,6 +83,7 @@ fn put_joined(list: &[u16], text: &mut [u8]) -> usize
     ensures count { result ≡ length (joined list.now) }
     ensures text { text.new ≡ joined list.now ++ drop result text.old }
 {
+    // No error is passed over: an empty list has no bytes.
     let Some((first, rest)) = list.split_first() else {
         return 0;
     };

@@ -8,7 +8,7 @@ use crate::parsed::{BYTES, Job, VALUES};
 use arrayvec::ArrayVec;
 use modulus::refusal::Refusal;
 
-// The joined numbers, one at least, at the front of the text, with the end of their line; and the rest.
+// The joined numbers, one at least, at the front of the text, with the end of their line; and the rest. A `loop`: it goes over what is left of the text, for which there is no range.
 fn joined_values(text: &[u8]) -> Found<'_, ArrayVec<u32, VALUES>>
     requires { length text.now ≤ 4096 }
     ensures { MatchOption result (NoValues text.now) (λ r. ValuesThen text.now r.0.items r.1.now) }

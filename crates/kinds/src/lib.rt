@@ -173,7 +173,7 @@ mod tests {
         run(2, 3, &SQUARE, input, &mut rack, &mut tally)
     }
 
-    // The number and the place of a refusal; none for an answer. By number and place, as a caller is shown them.
+    // The number and the place of a refusal; none for an answer. By number and place, as a caller is shown them; a test of one crate sees no helper of another's.
     fn refused<E: Element>(answer: Result<E, Refusal>) -> Option<(u8, usize)> {
         answer.err().map(|f| (f.number(), f.place()))
     }

@@ -161,7 +161,7 @@ mod tests {
         assert_eq!(rt; out, [0, 4, 4]);
     }
 
-    // The number and the place of the refusal, as a caller is shown them; none where there is an answer.
+    // The number and the place of the refusal, as a caller is shown them; none where there is an answer. A test of one crate sees no helper of another's.
     fn refusal_of(answer: Result<usize, Refusal>) -> Option<(u8, usize)> {
         answer
             .err()

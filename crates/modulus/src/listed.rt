@@ -55,7 +55,7 @@ fn open_places(p: u32, e: u32) -> u32
     i
 }
 
-// The modulus p ^ e, which is listed. Only here and in `new` are p and e still two numbers.
+// The modulus p ^ e, which is listed. p and e are two numbers only here, in `open_places`, and in `new` and `count`, which refuse a modulus off the list.
 #[tactic(auto, using(crate::proofs::Bounds::power_fits))]
 fn listed(p: u32, e: u32) -> Modulus
     requires { Listed p e }

@@ -53,8 +53,8 @@ fn quotient(m: u32, shared: u32, rest: u32, inverse: u32) -> u32
 }
 
 impl Modulus {
-    // The range is from 0: over `1..=i` the check takes the last round apart, and each answer stands twice.
     // Takes p out of i!, for a place below μ; what is left of i! is given modulo p ^ e.
+    // The range is from 0: over `1..=i` the check takes the last round apart, and each answer stands twice.
     pub(crate) fn factorial(&self, i: u32) -> PrimePart
         requires { i < self.now.mu }
         ensures exponent { result.exponent ≡ v self.now.prime i }
@@ -73,6 +73,7 @@ impl Modulus {
     }
 
     // The inverse modulo p ^ e of what p does not divide: each round doubles the number of digits that are right.
+    // A `while`: no range doubles. That the result is below the modulus is said at three functions; a type of such numbers would be no plainer.
     fn inverse(&self, u: u32) -> u32
         requires unit { 0 < u % self.now.prime }
         requires small { u < self.now.value }
@@ -108,7 +109,7 @@ impl Modulus {
         self.inverse(part.rest)
     }
 
-    // The quotient from place μ on, where i! is 0 modulo p ^ e.
+    // The quotient from place μ on, where i! is 0 modulo p ^ e. The clause here and below is that of `divide_by_factorial`, which picks one of the two.
     fn divide_past(&self, i: u32, rest: u32) -> Option<u32>
         requires { self.now.mu ≤ i }
         ensures { Quotient self.now i rest result }

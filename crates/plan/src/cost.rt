@@ -1,4 +1,4 @@
-// What a step list costs.
+// What a step list costs. `as` stands where the library has no `From`; the check shows that nothing is lost.
 ghost use Rattle.std.specs.Prelude.{◌≡◌, ℕ, ◌+◌, ◌<◌, ◌≤◌, length, MatchResult, slice_index};
 ghost use Rattle.plan.specs.Steps.{depth_by, depth_of, multiplications_of};
 

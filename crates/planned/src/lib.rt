@@ -127,12 +127,12 @@ mod tests {
         assert!(rt; is_filled(short));
     }
 
-    // Whether every step of the buffer is still the one that it was filled with.
+    // Whether every step of the buffer is still the one that it was filled with. By an iterator: there is no list to compare with.
     fn is_filled(buffer: &[Step]) -> bool {
         buffer.iter().all(|s| *s == FILL)
     }
 
-    // The number and the place of the refusal of a plan, as a caller is shown them; none where it is written.
+    // The number and the place of the refusal of a plan, as a caller is shown them; none where it is written. A test of one crate sees no helper of another's.
     fn refused(fit: &Fit, kind: Kind, buffer: &mut [Step]) -> Option<(u8, usize)> {
         plan(fit, kind, buffer)
             .err()

@@ -1,4 +1,4 @@
-// Block plans.
+// Block plans. `as` stands here and in ladder.rt where the library has no `From`; the check shows that nothing is lost.
 ghost use Rattle.std.specs.Prelude.{◌≡◌, ◌+◌, ◌-◌, ◌*◌, ◌/◌, ◌≤◌, ◌++◌, length, MatchResult};
 ghost use Rattle.planner.specs.Layout.{block as block_of, blocks as blocks_of, filled as filled_of, lower as lower_of, multiplies, powers as powers_of, terms as terms_of};
 

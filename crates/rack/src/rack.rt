@@ -18,7 +18,7 @@ pub struct Rack<'a, E> {
 }
 
 // Does the steps on the trays from a base on; refuses the first multiplication that no level is left for.
-// The base stays a parameter beside the trays: a slice from the base on would hide the trays below, of which the contract says that they stay.
+// The base stays a parameter beside the trays: a slice from the base on would hide the trays below, of which the contract says that they stay. The modulus is beside it since each step needs both.
 fn do_steps<E: Element>(
     trays: &mut [E],
     base: usize,

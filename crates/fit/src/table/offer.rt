@@ -21,6 +21,7 @@ pub struct Accepted {
 
 impl Fit {
     // The coefficient by which the reported polynomial takes this value in the next place; none where no integer polynomial does.
+    // By `?` and not by `map`, over which the bound of the cast was not proved.
     fn next_coefficient(&self, value: u32) -> Option<u16>
         requires { InRange self.now value }
         ensures { MatchOption result (Fits (power_of self.now.modulus) (stands self.now ++ value ∷ []) → ⊥) (λ c. (c < w self.now.modulus.prime self.now.modulus.exponent self.now.count) × Cong (power_of self.now.modulus) (pos (value_at self.now.coefficients self.now.count + c * factorial self.now.count)) (pos value)) }
@@ -31,7 +32,7 @@ impl Fit {
         Some(c as u16)
     }
 
-    // One coefficient more. Past the last place it is 0, which needs no memory. That the modulus stays is said here and at the functions above: it is about a change, which no type can carry.
+    // One coefficient more. Past the last place it is 0, which needs no memory. That the modulus stays is said here, at the callers, and at `take_last` and `withdraw`: it is about a change, which no type can carry.
     fn append(&mut self, coefficient: u16)
         requires room { self.old.count < self.old.modulus.value }
         requires small { coefficient < w self.old.modulus.prime self.old.modulus.exponent self.old.count }
