@@ -1,7 +1,7 @@
 -- Lanes one by one: how many an operation leaves, and what is in each; lanes that are made so are what it makes. Assumes nothing.
-use Rattle.std.proofs.Common.{◌≡◌, ℕ, zero, suc, ◌+◌, ◌*◌, ◌/◌, ◌%◌, ◌<◌, List, [], ◌∷◌, length, get_or, slice_index, sym, refl, ap, ◌∙◌, arith}
+use Rattle.std.proofs.Common.{◌≡◌, ℕ, zero, suc, ◌+◌, ◌*◌, ◌/◌, ◌%◌, ◌<◌, List, [], ◌∷◌, length, get_or, sym, refl, ap, ◌∙◌, arith}
 use Rattle.std.proofs.lemmas.List.{ext_get_or}
-use Rattle.element.specs.Lanewise.{Both, Each}
+use Rattle.element.specs.Lanewise.{Both, BothOperation, Each, EachOperation}
 use Rattle.element.specs.Rules.{lowered, products, scaled, shifted, sums}
 
 -- ---- one operation
@@ -55,16 +55,16 @@ lane-lowered p (x ∷ xs) zero lx = refl
 lane-lowered p (x ∷ xs) (suc j) lx = lane-lowered p xs j (omega arith)
 
 -- ---- lists that are made place by place
-module _ (n : ℕ) (xs zs : List ℕ) (lx : length xs ≡ n) (lz : length zs ≡ n) where
-  pub each : {R : ℕ → ℕ → Type 0} → ((i : ℕ) → i < n → R (slice_index xs i) (slice_index zs i)) → Each R xs zs
-  each made = record {
-    scales = λ m k is. ext_get_or 0 zs _ (lz ∙ sym (length-scaled m k xs ∙ lx)) (λ i l. is _ _ (made i (omega arith)) ∙ sym (lane-scaled m k xs i (omega arith)));
-    shifts = λ m k is. ext_get_or 0 zs _ (lz ∙ sym (length-shifted m k xs ∙ lx)) (λ i l. is _ _ (made i (omega arith)) ∙ sym (lane-shifted m k xs i (omega arith)));
-    lowers = λ p is. ext_get_or 0 zs _ (lz ∙ sym (length-lowered p xs ∙ lx)) (λ i l. is _ _ (made i (omega arith)) ∙ sym (lane-lowered p xs i (omega arith)));
+module _ (xs zs : List ℕ) where
+  pub each : {R : ℕ → ℕ → Type 0} → Each R xs zs → EachOperation R xs zs
+  each h = record {
+    scales = λ m k is. ext_get_or 0 zs _ (h.long ∙ sym (length-scaled m k xs)) (λ i l. is _ _ (h.made i (omega (arith, h.long))) ∙ sym (lane-scaled m k xs i (omega (arith, h.long))));
+    shifts = λ m k is. ext_get_or 0 zs _ (h.long ∙ sym (length-shifted m k xs)) (λ i l. is _ _ (h.made i (omega (arith, h.long))) ∙ sym (lane-shifted m k xs i (omega (arith, h.long))));
+    lowers = λ p is. ext_get_or 0 zs _ (h.long ∙ sym (length-lowered p xs)) (λ i l. is _ _ (h.made i (omega (arith, h.long))) ∙ sym (lane-lowered p xs i (omega (arith, h.long))));
   }
 
-  pub both : {R : ℕ → ℕ → ℕ → Type 0} (ys : List ℕ) → length ys ≡ n → ((i : ℕ) → i < n → R (slice_index xs i) (slice_index ys i) (slice_index zs i)) → Both R xs ys zs
-  both ys ly made = record {
-    adds = λ m is. ext_get_or 0 zs _ (lz ∙ sym (length-sums m n xs ys lx ly)) (λ i l. is _ _ _ (made i (omega arith)) ∙ sym (lane-sums m xs ys i (omega arith) (omega arith)));
-    multiplies = λ m is. ext_get_or 0 zs _ (lz ∙ sym (length-products m n xs ys lx ly)) (λ i l. is _ _ _ (made i (omega arith)) ∙ sym (lane-products m xs ys i (omega arith) (omega arith)));
+  pub both : {R : ℕ → ℕ → ℕ → Type 0} (ys : List ℕ) → Both R xs ys zs → BothOperation R xs ys zs
+  both ys h = record {
+    adds = λ m is. ext_get_or 0 zs _ (h.long ∙ sym (length-sums m (length xs) xs ys refl h.alike)) (λ i l. is _ _ _ (h.made i (omega (arith, h.long))) ∙ sym (lane-sums m xs ys i (omega (arith, h.long)) (omega (arith, h.long, h.alike))));
+    multiplies = λ m is. ext_get_or 0 zs _ (h.long ∙ sym (length-products m (length xs) xs ys refl h.alike)) (λ i l. is _ _ _ (h.made i (omega (arith, h.long))) ∙ sym (lane-products m xs ys i (omega (arith, h.long)) (omega (arith, h.long, h.alike))));
   }

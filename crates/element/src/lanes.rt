@@ -1,6 +1,6 @@
 // Elements that are lanes alone, with no end to their level.
 ghost use Rattle.std.specs.Prelude.{◌≡◌, ℕ, ◌<◌, ◌≤◌, max, length, slice_index};
-ghost use Rattle.element.specs.Lanewise.{Both, Each};
+ghost use Rattle.element.specs.Lanewise.{Both, BothOperation, Each, EachOperation};
 ghost use Rattle.element.specs.Rules.{endless};
 ghost use Rattle.std.proofs.Common.{rules};
 
@@ -22,7 +22,8 @@ impl<const N: usize> Lanes<N> {
     // Each lane is made by `f` of the one in its place.
     fn each<F: Fn(u16) -> u16>(self, f: F) -> Lanes<N>
         requires { F.IsAlwaysCallable f }
-        ensures { Each (λ x z. F.post f x z) self.entry.lanes result.lanes }
+        ensures made { Each (λ x z. F.post f x z) self.entry.lanes result.lanes }
+        ensures operations { EachOperation (λ x z. F.post f x z) self.entry.lanes result.lanes }
     {
         let mut made = self.lanes;
         for lane in made.iter_mut() {
@@ -34,7 +35,8 @@ impl<const N: usize> Lanes<N> {
     // Each lane is made by `f` of the two in its place. By the place: with `zip` in its stead, a proof knows nothing of the lanes that the loop leaves in `made`.
     fn both<F: Fn(u16, u16) -> u16>(self, other: Lanes<N>, f: F) -> Lanes<N>
         requires { F.IsAlwaysCallable f }
-        ensures { Both (λ x y z. F.post f x y z) self.entry.lanes other.entry.lanes result.lanes }
+        ensures made { Both (λ x y z. F.post f x y z) self.entry.lanes other.entry.lanes result.lanes }
+        ensures operations { BothOperation (λ x y z. F.post f x y z) self.entry.lanes other.entry.lanes result.lanes }
     {
         let mut made = self.lanes;
         for (i, lane) in made.iter_mut().enumerate() {

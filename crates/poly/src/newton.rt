@@ -23,8 +23,8 @@ fn sum_of_terms(modulus: &Modulus, coefficients: &[u16], x: u16) -> u16
     sum
 }
 
-// Above `sum_of_terms`, which has its proof, so that a wrong value fails at a fact of this function.
 // The value at x, modulo p ^ e, of the Newton form with these coefficients; below p ^ e.
+// A function of its own over `sum_of_terms`, which has the proof, so that a wrong value is refused at a clause of this one.
 pub fn evaluate(modulus: &Modulus, coefficients: &[u16], x: u16) -> u32
     ensures is { result ≡ value_at coefficients.now x % modulus.now.value }
     ensures polynomial { Cong modulus.now.value (pos result) (value (form coefficients.now) (pos x)) }

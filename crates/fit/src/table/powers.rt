@@ -15,9 +15,9 @@ impl Fit {
         powers(&self.modulus, &self.coefficients[..needed], out)
     }
 
-    // Not one function with `report`: of a closure that writes, the contract would have to repeat its clauses, for two callers.
     // Writes the coefficients of the reported polynomial in powers of X, each below the modulus, as many as a report has, and answers how many;
     // what lies past them stays. Refuses where the buffer is too short, and then leaves it as it is.
+    // Not one function with `report`: of a closure that writes, the contract would have to repeat its clauses, for two callers.
     pub fn powers(&self, out: &mut [u16]) -> Result<usize, Refusal>
         ensures { MatchResult result (λ n. (n ≡ report_length self.now) × (n ≤ length out.old) × WrittenPowers self.now (take n out.new) × (drop n out.new ≡ drop n out.old)) (λ f. (f ≡ Refusal.ShortBuffer (report_length self.now)) × (length out.old < report_length self.now) × (out.new ≡ out.old)) }
     {

@@ -1,8 +1,15 @@
-use Rattle.std.proofs.Common.{arith}
+use Rattle.std.proofs.Common.{sym, ◌∙◌, arith}
 use Rattle.element.proofs.Lanewise.{both}
 use Rattle.element.proofs.lanes.Lanes.both.Goals as goal
 
-pub returns : goal.returns
-returns g c =
+pub returns-clause-made : goal.returns-clause-made
+returns-clause-made g c =
     let made = c.loop-i.invariant in
-    both g.row.N c.args.self.lanes c.loop-i.lane-items c.args.self.wide made.0 c.args.other.lanes c.args.other.wide (λ i l. made.2 i (omega (arith, l, c.loop-i-test.false)))
+    record {
+      alike = c.args.other.wide ∙ sym c.args.self.wide;
+      long = made.0 ∙ sym c.args.self.wide;
+      made = λ i l. made.2 i (omega (arith, l, c.args.self.wide, c.loop-i-test.false));
+    }
+
+pub returns-clause-operations : goal.returns-clause-operations
+returns-clause-operations g c = both c.args.self.lanes c.loop-i.lane-items c.args.other.lanes (returns-clause-made g c)
