@@ -1,13 +1,12 @@
 -- Numbers in decimal digits end in one place. Rests on decimal numbers.
-use Rattle.std.proofs.Common.{◌≡◌, ℕ, zero, suc, ◌^◌, ◌<◌, ◌≤◌, List, [], ◌∷◌, ◌++◌, length, get_or, Ok, Err, Some, None, Result, decimal, sym, refl, ap, ◌∙◌, subst, arith}
-use native.Mathlib.Decide.{dec_lt}
+use Rattle.std.proofs.Common.{◌≡◌, ℕ, zero, suc, ◌<◌, ◌≤◌, List, [], ◌∷◌, ◌++◌, length, get_or, take, drop, decimal, sym, refl, ap, ◌∙◌, subst, arith}
+use native.Mathlib.Decide.{dec_le}
 use Rattle.std.proofs.lemmas.Fmt.{decimal_digit, decimal_nonempty, decimal-digits_value, digits_decimal, first_decimal, length-decimal-le, decimal_injective}
-use Rattle.std.proofs.lemmas.List.{append_assoc, append_cancel_left, length-append}
+use Rattle.std.proofs.lemmas.List.{append_assoc, append_cancel_left, drop_all, length-append}
 use Rattle.std.proofs.lemmas.Str.Parse.{IsNumeralModel, numerals_by_value, tells_by_index, tells_digits, digit_from_value, digits_value_short}
 use Rattle.std.specs.Str.Parse.{AllDigits, digits_value as value}
 use Rattle.std.specs.Char.{digit_value}
 use Rattle.std.specs.Int.{IsInRange}
-use Rattle.std.specs.Result.{OkIff, result_ok}
 use Rattle.job.specs.Reading.{Ends, LineThen, NoLine, NoNumber, NumberThen}
 use Rattle.job.specs.Text.{Short, number_line}
 
@@ -16,6 +15,12 @@ own = numerals_by_value (AllDigits 10) tells_digits
 
 pub all_digits : (ds : List ℕ) → ((k : ℕ) → k < length ds → IsInRange 48 57 (get_or ds k 0)) → AllDigits 10 ds
 all_digits = (numerals_by_value (λ ds. (k : ℕ) → k < length ds → IsInRange 48 57 (get_or ds k 0)) tells_by_index).to
+
+-- digits taken from the front of digits are digits
+pub front_digits : (i : ℕ) (ds : List ℕ) → AllDigits 10 ds → AllDigits 10 (take i ds)
+front_digits zero ds d = tt
+front_digits (suc i) [] d = tt
+front_digits (suc i) (c ∷ ds) d = (d.0, front_digits i ds d.1)
 
 -- ---- where a number ends
 -- a digit does not stand where a number has ended
@@ -44,7 +49,7 @@ cut_number m n xs ys short short' ends ends' e =
 -- ---- a run of digits at the front of a text
 module _ (text ds rest : List ℕ) (is : text ≡ ds ++ rest) (digits : AllDigits 10 ds) (ends : Ends rest) where
   -- a number stands here only if the digits write it
-  only_digits : ((n : ℕ) → Short n → ds ≡ decimal n → ⊥) → NoNumber text
+  pub only_digits : ((n : ℕ) → Short n → ds ≡ decimal n → ⊥) → NoNumber text
   only_digits other n rest' short ends' e = other n short (cut_digits ds (decimal n) rest rest' digits (digits_decimal own n (omega arith)) ends ends' (sym is ∙ e)).0
 
   pub no_digits : length ds ≡ 0 → NoNumber text
@@ -60,23 +65,11 @@ module _ (text ds rest : List ℕ) (is : text ≡ ds ++ rest) (digits : AllDigit
       go zero short e = omega (arith, ap length (e ∙ decimal_digit 0 (omega arith)))
       go (suc n) short e = omega (arith, first_decimal (suc n) (omega arith) (omega arith), ap (λ (xs : List ℕ). get_or xs 0 0) e)
 
-  number_here : 0 < length ds → length ds ≤ 5 → (get_or ds 0 0 ≡ 48 → length ds ≤ 1) → NumberThen text (value 10 ds) rest
+  pub number_here : 0 < length ds → length ds ≤ 5 → (get_or ds 0 0 ≡ 48 → length ds ≤ 1) → NumberThen text (value 10 ds) rest
   number_here some few first =
       let short : value 10 ds < 100000 = digits_value_short own ds 5 digits few in
       let written = decimal-digits_value own ds digits (omega arith) (λ z. omega (arith, first z)) (omega arith) in
       record { short = short; is = is ∙ ap (λ (xs : List ℕ). xs ++ rest) (sym written); ends = ends }
-
-  -- the run read as a number of 32 bits: it is refused only where there is no digit
-  pub none_read : {E : Type 0} (r : Result ℕ E) → OkIff r ((0 < length ds) × (value 10 ds < 2 ^ 32)) (value 10 ds) → None ≡ result_ok r → length ds ≤ 5 → NoNumber text
-  none_read (Ok v) h e few = absurd (cc e)
-  none_read (Err x) h e few =
-      let short : value 10 ds < 100000 = digits_value_short own ds 5 digits few in
-      elim (dec_lt 0 (length ds)) [ yes some ↦ absurd (h (some, omega arith)) | no none ↦ no_digits (omega arith) ]
-
-  pub number_read : {E : Type 0} (r : Result ℕ E) (v : ℕ) → OkIff r ((0 < length ds) × (value 10 ds < 2 ^ 32)) (value 10 ds) → Some v ≡ result_ok r → length ds ≤ 5 → (get_or ds 0 0 ≡ 48 → length ds ≤ 1)
-      → NumberThen text v rest
-  number_read (Ok w) v h e few first = let same : w ≡ v = cc e in subst (λ (x : ℕ). NumberThen text x rest) (sym h.1 ∙ same) (number_here h.0.0 few first)
-  number_read (Err x) v h e few first = absurd (cc e)
 
 -- a number has a digit at least
 pub number_takes : (text : List ℕ) (n : ℕ) (rest : List ℕ) → NumberThen text n rest → length rest < length text
@@ -91,9 +84,16 @@ line_parts key n rest = simp append_assoc
 pub ends-line : (rest : List ℕ) → Ends (10 ∷ rest)
 ends-line rest low high = omega arith
 
--- no line stands where the key does not
-pub no_key : (text key : List ℕ) → ((rest : List ℕ) → text ≡ key ++ rest → ⊥) → NoLine text key
-no_key text key none n rest short e = none (decimal n ++ 10 ∷ rest) (e ∙ line_parts key n rest)
+-- no line stands in a text from one place on where the key does not, and none past its end
+pub no_key : (bs key : List ℕ) (at : ℕ) → ((rest : List ℕ) → at ≤ length bs → drop at bs ≡ key ++ rest → ⊥) → NoLine (drop at bs) key
+no_key bs key at none n rest short e = go (dec_le at (length bs))
+  where
+    line : drop at bs ≡ key ++ (decimal n ++ 10 ∷ rest)
+    line = e ∙ line_parts key n rest
+
+    go : Dec (at ≤ length bs) → ⊥
+    go (yes le) = none (decimal n ++ 10 ∷ rest) le line
+    go (no past) = omega (arith, ap length (sym (drop_all at bs (omega arith)) ∙ line), length-append key (decimal n ++ 10 ∷ rest), length-append (decimal n) (10 ∷ rest))
 
 module _ (text key left : List ℕ) (has : text ≡ key ++ left) where
   -- a number behind the key, and the byte 10 behind that, are a line

@@ -1,41 +1,43 @@
 // A job read from its text.
-ghost use Rattle.std.specs.Prelude.{◌≡◌, ℕ, ◌≤◌, length, codes, MatchOption, MatchResult};
+ghost use Rattle.std.specs.Prelude.{◌≡◌, ℕ, ◌≤◌, [], length, codes, MatchOption, MatchResult};
 ghost use Rattle.job.specs.Reading.{ListThen, NoListLine, NoValues, ValuesThen};
 ghost use Rattle.job.specs.Text.{IsBadLine, Says};
 
-use crate::numbers::{Found, behind, number, number_line};
+use crate::numbers::{behind, number, number_line};
 use crate::parsed::{BYTES, Job, VALUES};
 use arrayvec::ArrayVec;
 use modulus::refusal::Refusal;
 
-// The joined numbers, one at least, at the front of the text, with the end of their line; and the rest. A `loop`: it goes over what is left of the text, for which there is no range.
-fn joined_values(text: &[u8]) -> Found<'_, ArrayVec<u32, VALUES>>
-    requires { length text.now ≤ 4096 }
-    ensures { MatchOption result (NoValues text.now) (λ r. ValuesThen text.now r.0.items r.1.now) }
+// Reads joined numbers, one at least, with the end of their line, from the front of the text into the values; answers the rest.
+// `read` lends the values: they are a list of 8 KiB, which each function that answers it by value makes anew. A `loop`: it goes over what is left of the text, for which there is no range.
+fn joined_values<'a>(text: &'a [u8], values: &mut ArrayVec<u32, VALUES>) -> Option<&'a [u8]>
+    requires short { length text.now ≤ 4096 }
+    requires none { values.old.items ≡ [] }
+    ensures { MatchOption result (NoValues text.now) (λ rest. ValuesThen text.now values.new.items rest.now) }
 {
-    let mut values = ArrayVec::new();
     let mut left = text;
     loop {
         let (value, rest) = number(left)?;
         values.push(value);
         match rest.split_first()? {
-            (b'\n', rest) => return Some((values, rest)),
+            (b'\n', rest) => return Some(rest),
             (b',', rest) => left = rest,
             _ => return None,
         }
     }
 }
 
-// The values in the line at the front of the text, and the rest.
-fn values_line(text: &[u8]) -> Found<'_, ArrayVec<u32, VALUES>>
-    requires { length text.now ≤ 4096 }
-    ensures { MatchOption result (NoListLine text.now (codes "values=")) (λ r. ListThen text.now (codes "values=") r.0.items r.1.now) }
+// Reads the line with the values from the front of the text; answers the rest.
+fn values_line<'a>(text: &'a [u8], values: &mut ArrayVec<u32, VALUES>) -> Option<&'a [u8]>
+    requires short { length text.now ≤ 4096 }
+    requires none { values.old.items ≡ [] }
+    ensures { MatchOption result (NoListLine text.now (codes "values=")) (λ rest. ListThen text.now (codes "values=") values.new.items rest.now) }
 {
-    let values = behind(text, b"values=")?;
-    // A match: `map` and `or_else` would be no shorter.
-    match behind(values, b"\n") {
-        Some(rest) => Some((ArrayVec::new(), rest)),
-        None => joined_values(values),
+    let list = behind(text, b"values=")?;
+    // A match: `or_else` would lend the values to a closure.
+    match behind(list, b"\n") {
+        Some(rest) => Some(rest),
+        None => joined_values(list, values),
     }
 }
 
@@ -48,7 +50,8 @@ pub(crate) fn read(bytes: &[u8]) -> Result<Job, Refusal>
     }
     let (prime, text) = number_line(bytes, b"prime=").ok_or(Refusal::BadLine { line: 1 })?;
     let (exponent, text) = number_line(text, b"exponent=").ok_or(Refusal::BadLine { line: 2 })?;
-    let (values, text) = values_line(text).ok_or(Refusal::BadLine { line: 3 })?;
+    let mut values = ArrayVec::new();
+    let text = values_line(text, &mut values).ok_or(Refusal::BadLine { line: 3 })?;
     if !text.is_empty() {
         return Err(Refusal::BadLine { line: 4 });
     }

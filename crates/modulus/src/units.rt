@@ -73,7 +73,7 @@ impl Modulus {
     }
 
     // The inverse modulo p ^ e of what p does not divide: each round doubles the number of digits that are right.
-    // A `while`: no range doubles. That the result is below the modulus is said at three functions; a type of such numbers would be no plainer.
+    // A `while`: no range doubles. The negative is taken here, and not by `negative`, which divides once more: that is seen in the time of a call. That the result is below the modulus is said at three functions; a type of such numbers would be no plainer.
     fn inverse(&self, u: u32) -> u32
         requires unit { 0 < u % self.now.prime }
         requires small { u < self.now.value }
@@ -84,7 +84,7 @@ impl Modulus {
         let mut r = inverse_modulo_prime(self.prime(), u);
         let mut right = 1;
         while right < self.exponent() {
-            r = r * ((2 + u32::from(self.negative(u * r))) % m) % m;
+            r = r * ((2 + (m - u * r % m)) % m) % m;
             right *= 2;
         }
         r

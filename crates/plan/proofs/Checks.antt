@@ -15,7 +15,7 @@ pub record Marks (before : List Step) (readable : List Bool) : Type 0 where
   pub all : (t : ℕ) → t < 64 → Readable before t → get_or readable t false ≡ true
 
 module _ (m : ℕ) (before : List Step) (readable : List Bool) (marks : Marks before readable) (s : Step) where
-  formed_from : (op : Op) → s.b < 64 → marked m readable s op ≡ true → Formed m before s op
+  pub formed_from : (op : Op) → s.b < 64 → marked m readable s op ≡ true → Formed m before s op
   formed_from Add lt h = let (read, none) = and_parts _ _ h in (marks.right s.b lt read, eqb-true s.k 0 none)
   formed_from Multiply lt h = let (read, none) = and_parts _ _ h in (marks.right s.b lt read, eqb-true s.k 0 none)
   formed_from Scale lt h = let (none, small) = and_parts _ _ h in (eqb-true s.b 0 none, ltb-true s.k m small)
@@ -59,12 +59,13 @@ pub readable_more : (before after : List Step) (t : ℕ) → Readable before t �
 readable_more before after t (inl e) = inl e
 readable_more before after t (inr w) = inr (written-more before after t w)
 
+-- the last step has written its tray
+pub written_last : (before : List Step) (s : Step) → Written (before ++ s ∷ []) s.to
+written_last [] s = inl refl
+written_last (x ∷ before) s = inr (written_last before s)
+
 pub readable_last : (before : List Step) (s : Step) → Readable (before ++ s ∷ []) s.to
-readable_last before s = inr (last before)
-  where
-    last : (before : List Step) → Written (before ++ s ∷ []) s.to
-    last [] = inl refl
-    last (x ∷ before) = inr (last before)
+readable_last before s = inr (written_last before s)
 
 written_either : (before : List Step) (s : Step) (t : ℕ) → Written (before ++ s ∷ []) t → Written before t ⊎ (s.to ≡ t)
 written_either [] s t (inl e) = inr e

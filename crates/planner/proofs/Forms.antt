@@ -17,6 +17,10 @@ form_length-same c d h =
     le_antisymm (form_length-le c (form_length d) (λ i l. h i ∙ form_length-past d i l))
     (form_length-le d (form_length c) (λ i l. sym (h i) ∙ form_length-past c i l))
 
+-- the length of a form without the zeros at its end
+pub length-trimmed : (c : List ℕ) → length (take (form_length c) c) ≡ form_length c
+length-trimmed c = length-take-le (form_length c) c (form_length-le c (length c) (λ i l. get_or_past c i 0 l))
+
 -- ---- a form in powers of X
 -- terms below place n have no coefficient in powers of X from n on
 sum_of-past : (c : ℕ → ℤ) (n k : ℕ) → n ≤ k → get_or (sum_of c n) k (pos 0) ≡ pos 0

@@ -10,8 +10,10 @@ use Rattle.poly.specs.Reduced.{Reported, SameForm, form_length}
 use Rattle.poly.proofs.Coefficients.{same_alike}
 use Rattle.poly.proofs.Equivalents.{same-form_alike}
 use Rattle.poly.proofs.Held.{from_same}
-use Rattle.poly.proofs.Reports.{reported-unique}
+use Rattle.poly.proofs.Reports.{reported-unique, residues}
 use Rattle.poly.proofs.Standing.{form_length-past}
+use Rattle.fit.specs.Standing.{power_of, stands}
+use Rattle.fit.specs.declared.table.Fit.{Fit}
 use Rattle.plan.specs.Steps.{Passes, Written, depth_of, multiplications_of}
 use Rattle.plan.specs.Trays.{answer}
 use Rattle.plan.specs.declared.cost.Price.{Price}
@@ -82,6 +84,14 @@ plan-issued p e h ys kind steps small plan =
       computes = plan-computes p e h ys kind steps plan;
       places = λ trays within. plan-places p e h ys kind steps plan trays within (small (trays 0) within);
     }
+
+-- a plan that is laid out for what stands in a fit owes all that a plan owes
+pub stands-issued : (f : Fit) (kind : Kind) (steps : List Step) → Planned f.modulus.prime f.modulus.exponent (stands f) kind steps
+    → Issued f.modulus.prime f.modulus.exponent (stands f) kind steps
+stands-issued f kind steps plan =
+    let m = f.modulus in
+    let some = above_one m.prime m.exponent m.listed in
+    plan-issued m.prime m.exponent m.listed (stands f) kind steps (λ i _. residues (power_of m) f.coefficients f.count (omega (arith, some)) i) plan
 
 -- ---- one plan
 layout_same : (m : ℕ) (c d : List ℕ) (kind : Kind) (steps others : List Step) → SameForm c d → Layout m c kind steps → Layout m d kind others → steps ≡ others

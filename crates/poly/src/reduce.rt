@@ -29,6 +29,17 @@ fn below_bound(modulus: &Modulus, i: usize, c: u16) -> u16
     (u32::from(c) % divisor(modulus, i)) as u16
 }
 
+// The coefficients of a form, each brought below the bound of its place.
+fn bring_below_bounds(modulus: &Modulus, form: &[u16], reduced: &mut [u16])
+    requires same_length { length reduced.old ≡ length form.now }
+    requires few { length form.now ≤ 52 }
+    ensures { (k : ℕ) → k < length form.now → slice_index reduced.new k ≡ slice_index form.now k % w modulus.now.prime modulus.now.exponent k }
+{
+    for (i, c) in reduced.iter_mut().enumerate() {
+        *c = below_bound(modulus, i, form[i]);
+    }
+}
+
 // At most 64 coefficients in powers of X, each below the modulus.
 #[derive(Clone, Copy)]
 pub(crate) struct Coefficients<'a> {
@@ -63,12 +74,15 @@ impl<'a> Coefficients<'a> {
         newton
     }
 
-    // The reduced form.
+    // The reduced form. Only the places below μ are gone through: in the others it has 0.
     pub(crate) fn reduced_form(&self) -> [u16; PLACES]
         ensures { Reduces self.now.modulus.now.prime self.now.modulus.now.exponent (ints self.now.list.now) result }
     {
         let newton = self.newton_form();
-        std::array::from_fn(|i| below_bound(self.modulus, i, newton[i]))
+        let open = self.modulus.mu() as usize;
+        let mut reduced = [0; PLACES];
+        bring_below_bounds(self.modulus, &newton[..open], &mut reduced[..open]);
+        reduced
     }
 
     // Writes the reduced form to the front of the buffer. For `u32` to `usize` the library has no `From`.

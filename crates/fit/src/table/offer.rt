@@ -26,8 +26,9 @@ impl Fit {
         requires { InRange self.now value }
         ensures { MatchOption result (Fits (power_of self.now.modulus) (stands self.now ++ value ∷ []) → ⊥) (λ c. (c < w self.now.modulus.prime self.now.modulus.exponent self.now.count) × Cong (power_of self.now.modulus) (pos (value_at self.now.coefficients self.now.count + c * factorial self.now.count)) (pos value)) }
     {
+        let m = self.modulus.value();
         let sum = self.value_at(self.count as u16);
-        let rest = value + u32::from(self.modulus.negative(sum));
+        let rest = value + (m - sum);
         let c = self.modulus.divide_by_factorial(self.count, rest)?;
         Some(c as u16)
     }

@@ -19,17 +19,17 @@ returns-in_err-exponent c =
     let none = rw c.in_err-exponent.ensures.ok_part at c.number_line-2.ensures in
     rw (err_is _ _ c.from_residual-in_err-exponent.ensures.1) (2, second_bad c.args.bytes.now c.if-bytes-gt-BYTES.false c.in_ok-prime.prime c.in_ok-prime.text.now first none, refused _ _ c.in_err-exponent.ensures.value)
 
-pub returns-in_err-values : goal.returns-in_err-values
-returns-in_err-values c =
+pub returns-in_err-text : goal.returns-in_err-text
+returns-in_err-text c =
     let first = rw c.in_ok-prime.ensures.ok_part at c.number_line.ensures in
     let second = rw c.in_ok-exponent.ensures.ok_part at c.number_line-2.ensures in
-    let none = rw c.in_err-values.ensures.ok_part at c.values_line.ensures in
-    rw (err_is _ _ c.from_residual-in_err-values.ensures.1) (3, third_bad c.args.bytes.now c.if-bytes-gt-BYTES.false c.in_ok-prime.prime c.in_ok-prime.text.now first c.in_ok-exponent.exponent c.in_ok-exponent.text.now second none, refused _ _ c.in_err-values.ensures.value)
+    let none = rw c.in_err-text.ensures.ok_part at c.values_line.ensures in
+    rw (err_is _ _ c.from_residual-in_err-text.ensures.1) (3, third_bad c.args.bytes.now c.if-bytes-gt-BYTES.false c.in_ok-prime.prime c.in_ok-prime.text.now first c.in_ok-exponent.exponent c.in_ok-exponent.text.now second none, refused _ _ c.in_err-text.ensures.value)
 
 pub returns-then-not-is_empty : goal.returns-then-not-is_empty
 returns-then-not-is_empty c =
     let first = rw c.in_ok-prime.ensures.ok_part at c.number_line.ensures in
     let second = rw c.in_ok-exponent.ensures.ok_part at c.number_line-2.ensures in
-    let some : 0 < length c.in_ok-values.text.now = grind (arith, nat_tests) in
-    let third = rw c.in_ok-values.ensures.ok_part at c.values_line.ensures in
-    (4, fourth_bad c.args.bytes.now c.if-bytes-gt-BYTES.false c.in_ok-prime.prime c.in_ok-prime.text.now first c.in_ok-exponent.exponent c.in_ok-exponent.text.now second c.in_ok-values.values.items c.in_ok-values.text.now third some, refl)
+    let some : 0 < length c.in_ok-text.text.now = grind (arith, nat_tests) in
+    let third = rw c.in_ok-text.ensures.ok_part at c.values_line.ensures in
+    (4, fourth_bad c.args.bytes.now c.if-bytes-gt-BYTES.false c.in_ok-prime.prime c.in_ok-prime.text.now first c.in_ok-exponent.exponent c.in_ok-exponent.text.now second c.values_line.new.values.items c.in_ok-text.text.now third some, refl)

@@ -1,5 +1,5 @@
-use Rattle.std.proofs.Common.{◌≡◌, ℕ, ◌*◌, ◌%◌, ◌^◌, ◌<◌, ◌≤◌, min, pos, sym, ap, ◌∙◌, mod-lt, mod-eq_of_lt, arith}
-use native.Mathlib.Nat.{pow-le-pow_right}
+use Rattle.std.proofs.Common.{◌≡◌, ℕ, ◌-◌, ◌*◌, ◌%◌, ◌^◌, ◌<◌, ◌≤◌, min, pos, refl, sym, ap, ◌∙◌, subst, mod-lt, mod-eq_of_lt, arith}
+use native.Mathlib.Nat.{add-mod-mod, pow-le-pow_right}
 use Rattle.modulus.specs.Congruence.{Cong}
 use Rattle.modulus.specs.Moduli.{greatest}
 use Rattle.modulus.proofs.Bounds.{greatest-small, power_one}
@@ -32,12 +32,14 @@ loop-right-preserved c =
     let inv = c.loop-right.invariant in
     let top : greatest m.prime ≤ 16 = greatest-small m.prime (omega (arith, m.listed.0, m.listed.1)) in
     let lt : c.loop-right.right < m.exponent = omega (arith, c.loop-right-test.true, c.exponent.ensures) in
+    let less : ℕ = m.value - (c.args.u * c.loop-right.r) % m.value in
     rw c.value-m.ensures.is
     (record {
       small = mod-lt _ (omega (arith, m.large));
       some = omega (arith, inv.some);
       few = omega (arith, m.listed.1);
-      digits = inverse_round m c.loop-right.right c.args.u c.loop-right.r c.from.result lt (c.from.ensures ∙ c.negative.ensures.is) inv.digits;
+      digits = subst (λ (s : ℕ). Cong (m.prime ^ min (c.loop-right.right * 2) m.exponent) (pos (c.args.u * ((c.loop-right.r * s) % m.value))) (pos 1)) (add-mod-mod 2 less m.value)
+          (inverse_round m c.loop-right.right c.args.u c.loop-right.r (less % m.value) lt refl inv.digits);
     })
 
 pub returns-clause-one : goal.returns-clause-one
